@@ -1,0 +1,6 @@
+pub mod Fraction
+pub mod Value
+pub mod Rounded
+pub mod Multiple
+pub mod Straight
+pub mod Laws

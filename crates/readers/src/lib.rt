@@ -1,0 +1,3 @@
+pub mod edition;
+pub mod mount;
+pub mod reader;

@@ -1,0 +1,4 @@
+pub mod Fields
+pub mod Replay
+pub mod Openings
+pub mod Pages

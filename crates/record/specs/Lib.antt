@@ -1,0 +1,5 @@
+pub mod Refusals
+pub mod Fields
+pub mod Record
+pub mod Reached
+pub mod Page

@@ -1,0 +1,10 @@
+pub mod edition;
+pub mod fault;
+pub mod field;
+pub mod item;
+pub mod reading;
+pub mod report;
+mod rows;
+pub mod state;
+pub mod tally;
+mod text;

@@ -1,0 +1,11 @@
+pub mod Chain
+pub mod Apart
+pub mod Large
+pub mod Pieces
+pub mod Regions
+pub mod Radian
+pub mod Shared
+pub mod HalfTurns
+pub mod Tried
+pub mod Turns
+pub mod Reading

@@ -1,0 +1,2 @@
+pub mod needle;
+pub mod share;
