@@ -4,8 +4,9 @@ ghost use Prim.Native.Nat.{_%_};
 ghost use Rattle.circle.specs.Circle.{exactSine, exactCosine};
 ghost use Rattle.shares.specs.Share.{shareOf, sineShare, cosineShare, Share-near};
 use forms::F64Form;
+use rounding::narrow;
+use rounding::round;
 use std::num::f32_to_f64_with_nan;
-use std::num::nearest_f64_to_f32_with_nan;
 use std::num::saturating_f64_to_i32;
 use table::sine_and_cosine;
 
@@ -19,9 +20,8 @@ pub struct Shares {
 pub fn share(x: f64) -> i32
     ensures { λ r. ⌜ r ≡ shareOf x ⌝ }
 {
-    let narrow = nearest_f64_to_f32_with_nan(x);
-    let scaled = f32_to_f64_with_nan(narrow) * 1073741824.0;
-    saturating_f64_to_i32(scaled.round())
+    let scaled = f32_to_f64_with_nan(narrow(x)) * 1073741824.0;
+    saturating_f64_to_i32(round(scaled))
 }
 
 // The shares of k + y steps, whole turns of 64 aside.

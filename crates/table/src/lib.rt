@@ -9,6 +9,8 @@ use forms::Form;
 use forms::f_polyeval3;
 use forms::f_polyeval4;
 
+pub mod tangent;
+
 // The sines of 0 to 63 steps, as bits.
 const SIN_K_PI_OVER32: [u64; 64] = [
     0x0000000000000000,
