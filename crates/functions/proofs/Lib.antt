@@ -1,3 +1,0 @@
-pub mod Tests
-pub mod Ways
-pub mod Tried

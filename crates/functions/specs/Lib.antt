@@ -1,4 +1,0 @@
-pub mod Words
-pub mod Radians
-pub mod HalfTurns
-pub mod Tried

@@ -1,6 +1,6 @@
 ghost use mathlib.Core.Path.{_≡_};
 ghost use Rattle.reducers.specs.Reduce.{reduceQuarter};
-ghost use Rattle.functions.specs.HalfTurns.{cospiNear, cosineBy, byQuarter, cospif};
+ghost use Rattle.formulas.specs.HalfTurns.{cospiNear, cosineBy, byQuarter, cospif};
 use crate::sincosf_eval::cospif_eval;
 use crate::sincosf_eval::sinpif_eval;
 use crate::word::INFINITE;

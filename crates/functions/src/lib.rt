@@ -1,6 +1,3 @@
-ghost use mathlib.Core.Path.{_≡_};
-ghost use Rattle.functions.specs.Tried.{Tried};
-
 mod cosf;
 mod cospif;
 mod sincosf_eval;
@@ -24,11 +21,3 @@ pub use word::luhvend_sinf;
 pub use word::luhvend_sinpif;
 pub use word::luhvend_tanf;
 pub use word::luhvend_tanpif;
-
-// How many values stand in the table of tried ones.
-pub fn tried_values() -> u8
-    ensures count { λ r. ⌜ r ≡ 11 ⌝ }
-    ensures right { λ _. ⌜ Tried ⌝ }
-{
-    11
-}

@@ -1,5 +1,5 @@
 ghost use mathlib.Core.Path.{_≡_};
-ghost use Rattle.functions.specs.HalfTurns.{sinpiY, cospiY};
+ghost use Rattle.formulas.specs.HalfTurns.{sinpiY, cospiY};
 use forms::F64Form;
 use forms::f_estrin_polyeval7;
 use forms::f_polyeval6;

@@ -1,6 +1,6 @@
 ghost use mathlib.Core.Path.{_≡_};
 ghost use Rattle.reducers.specs.Reduce.{reduceQuarter};
-ghost use Rattle.functions.specs.HalfTurns.{sinpiNear, sineBy, byQuarter, sinpif};
+ghost use Rattle.formulas.specs.HalfTurns.{sinpiNear, sineBy, byQuarter, sinpif};
 use crate::sincosf_eval::cospif_eval;
 use crate::sincosf_eval::sinpif_eval;
 use crate::word::INFINITE;

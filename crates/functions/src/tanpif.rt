@@ -1,5 +1,5 @@
 ghost use mathlib.Core.Path.{_≡_};
-ghost use Rattle.functions.specs.HalfTurns.{tanpiBy, tanpiAt, tanpif};
+ghost use Rattle.formulas.specs.HalfTurns.{tanpiBy, tanpiAt, tanpif};
 ghost use Prim.Native.Nat.{_<_};
 use crate::word::INFINITE;
 use crate::word::size_bits;

@@ -1,7 +1,7 @@
 ghost use mathlib.Core.Path.{_≡_};
-ghost use Rattle.functions.specs.Words.{sizeBits, onWord};
-ghost use Rattle.functions.specs.Radians.{sinf, cosf, tanf};
-ghost use Rattle.functions.specs.HalfTurns.{sinpif, cospif, tanpif};
+ghost use Rattle.formulas.specs.Words.{sizeBits, onWord};
+ghost use Rattle.formulas.specs.Radians.{sinf, cosf, tanf};
+ghost use Rattle.formulas.specs.HalfTurns.{sinpif, cospif, tanpif};
 use crate::cosf::f_cosf;
 use crate::cospif::f_cospif;
 use crate::sinf::f_sinf;

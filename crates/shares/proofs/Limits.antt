@@ -26,7 +26,8 @@ use Rattle.std.specs.declared.option.Option.the-variants.{Some, None}
 use Rattle.std.specs.declared.result.Result.the-variants.{Ok, Err}
 use Rattle.readers.specs.Meaning.{Steps, Reading, Answers, Keeps}
 use Rattle.shares.specs.Needle.{needleOf, Points}
-use Rattle.shares.specs.Share.{sine64, cosine64, sine32, cosine32, shareOf, Read, sineShare, cosineShare, Share-near, Needle-near}
+use Rattle.table.specs.Sines.{sine64, cosine64}
+use Rattle.shares.specs.Share.{sine32, cosine32, shareOf, Read, sineShare, cosineShare, Share-near, Needle-near}
 
 -- ---- from k + y to u
 -- what the reader's error costs

@@ -6,17 +6,9 @@ use Rattle.std.specs.Floats.{nearestIn, roundAway}
 use Rattle.exact.specs.Fraction.{Fraction, _⊕_, _⊗_, whole, frac, tiny, Within}
 use Rattle.exact.specs.Value.{valueOf, integer, Held, Good}
 use Rattle.circle.specs.Circle.{Alike}
-use Rattle.table.specs.Sines.{sineOf, cosineOf}
+use Rattle.table.specs.Sines.{sineOf, cosineOf, sine64, cosine64}
 
--- the table text in the f64 form and in the f32 form
-abbrev pub sine64 : Float → ℕ → Float
-sine64 y k = sineOf (λ a b c. add binary64 (mul binary64 a b) c) (mul binary64) (λ x. x) y k
-
--- the cosine
-abbrev pub cosine64 : Float → ℕ → Float
-cosine64 y k = cosineOf (λ a b c. add binary64 (mul binary64 a b) c) (mul binary64) (λ x. x) y k
-
--- the sine in f32
+-- the sine by the table text in the f32 form
 abbrev pub sine32 : Float → ℕ → Float
 sine32 y k = sineOf (λ a b c. add binary32 (mul binary32 a b) c) (mul binary32) (nearestIn binary32) y k
 

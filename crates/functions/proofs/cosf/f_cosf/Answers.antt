@@ -2,9 +2,9 @@ use mathlib.Core.Path.{_≡_, ap, sym, _∙_}
 use native.Mathlib.Omega.{arith}
 use lib.Ieee.{nanBits, binary32, ofBits, ofFields}
 use Rattle.reducers.specs.Reduce.{reduce}
-use Rattle.functions.specs.Words.{fmla, narrowed, minusTiny, one, cosineAt}
-use Rattle.functions.specs.Radians.{cosNear, cosOf}
-use Rattle.functions.proofs.Ways.{cosf-line, cosf-near, cosf-nan, cosf-far}
+use Rattle.formulas.specs.Words.{fmla, narrowed, minusTiny, one, cosineAt}
+use Rattle.formulas.specs.Radians.{cosNear, cosOf}
+use Rattle.formulas.proofs.Ways.{cosf-line, cosf-near, cosf-nan, cosf-far}
 use Rattle.functions.proofs.cosf.f_cosf.Needs as need
 
 pub float-from-bits-f-fmla : need.float-from-bits-f-fmla

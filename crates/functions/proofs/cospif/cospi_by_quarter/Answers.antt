@@ -4,8 +4,8 @@ use native.Mathlib.Omega.{arith}
 use Prim.Native.Nat.{_%_}
 use lib.Ieee.{neg}
 use Rattle.reducers.specs.Exact.{modTurn}
-use Rattle.functions.specs.HalfTurns.{cosineBy}
-use Rattle.functions.proofs.Ways.{cosine-last, quarter-at}
+use Rattle.formulas.specs.HalfTurns.{cosineBy}
+use Rattle.formulas.proofs.Ways.{cosine-last, quarter-at}
 use Rattle.functions.proofs.cospif.cospi_by_quarter.Needs as need
 
 pub returns-in-rest : need.returns-in-rest

@@ -1,6 +1,6 @@
 use mathlib.Core.Path.{refl}
 use lib.Ieee.{nanBits}
-use Rattle.functions.specs.HalfTurns.{cospiNear}
+use Rattle.formulas.specs.HalfTurns.{cospiNear}
 use Rattle.functions.proofs.cospif.cospi_near.Needs as need
 
 pub float-from-bits-f-polyeval5 : need.float-from-bits-f-polyeval5

@@ -5,9 +5,9 @@ use native.Mathlib.Omega.{arith}
 use lib.Ieee.{nanBits, binary32, ofBits, ofFields}
 use Rattle.rounding.specs.Bits.{wholeBits, oddBits}
 use Rattle.reducers.specs.Reduce.{reduceQuarter}
-use Rattle.functions.specs.Words.{fmla, narrowed, minusTiny, one}
-use Rattle.functions.specs.HalfTurns.{cospiNear, cosineBy, byQuarter, cospiOf}
-use Rattle.functions.proofs.Ways.{cospif-line, cospif-near, cospif-nan, cospif-rest, unit, large-whole, digits-whole, not-whole}
+use Rattle.formulas.specs.Words.{fmla, narrowed, minusTiny, one}
+use Rattle.formulas.specs.HalfTurns.{cospiNear, cosineBy, byQuarter, cospiOf}
+use Rattle.formulas.proofs.Ways.{cospif-line, cospif-near, cospif-nan, cospif-rest, unit, large-whole, digits-whole, not-whole}
 use Rattle.functions.proofs.cospif.f_cospif.Needs as need
 use Rattle.functions.proofs.cospif.f_cospif.Needs.{then-x-abs-ge1258291200·by·then-x-abs-ge1258291200, then-x-abs-ge1258291200·by·else-x-abs-ge1258291200·then-is-integerf}
 

@@ -1,6 +1,6 @@
 use mathlib.Core.Path.{refl}
 use lib.Ieee.{nanBits}
-use Rattle.functions.specs.HalfTurns.{cospiY}
+use Rattle.formulas.specs.HalfTurns.{cospiY}
 use Rattle.functions.proofs.sincosf_eval.cospif_eval.Needs as need
 
 pub float-from-bits-f-estrin-polyeval7 : need.float-from-bits-f-estrin-polyeval7

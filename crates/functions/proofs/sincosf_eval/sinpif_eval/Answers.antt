@@ -1,6 +1,6 @@
 use mathlib.Core.Path.{refl}
 use lib.Ieee.{nanBits}
-use Rattle.functions.specs.HalfTurns.{sinpiY}
+use Rattle.formulas.specs.HalfTurns.{sinpiY}
 use Rattle.functions.proofs.sincosf_eval.sinpif_eval.Needs as need
 
 pub float-from-bits-f-polyeval6 : need.float-from-bits-f-polyeval6

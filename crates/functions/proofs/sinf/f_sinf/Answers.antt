@@ -2,9 +2,9 @@ use mathlib.Core.Path.{ap, sym, _∙_}
 use native.Mathlib.Omega.{arith}
 use lib.Ieee.{nanBits, ofBits, ofFields}
 use Rattle.reducers.specs.Reduce.{reduce}
-use Rattle.functions.specs.Words.{fmla, narrowed, minusTiny, sineAt}
-use Rattle.functions.specs.Radians.{sinNear}
-use Rattle.functions.proofs.Ways.{sinf-zero, sinf-line, sinf-near, sinf-nan, sinf-far}
+use Rattle.formulas.specs.Words.{fmla, narrowed, minusTiny, sineAt}
+use Rattle.formulas.specs.Radians.{sinNear}
+use Rattle.formulas.proofs.Ways.{sinf-zero, sinf-line, sinf-near, sinf-nan, sinf-far}
 use Rattle.functions.proofs.sinf.f_sinf.Needs as need
 
 pub returns-then-x-abs-eq0 : need.returns-then-x-abs-eq0

@@ -5,9 +5,9 @@ use native.Mathlib.Omega.{arith}
 use lib.Ieee.{nanBits, binary64, mul, ofBits, ofFields}
 use Rattle.rounding.specs.Bits.{wholeBits}
 use Rattle.reducers.specs.Reduce.{reduceQuarter}
-use Rattle.functions.specs.Words.{sizeBits, fmla, narrowed}
-use Rattle.functions.specs.HalfTurns.{pi, minusPi3Over6, sinpiNear, sineBy, byQuarter}
-use Rattle.functions.proofs.Ways.{sinpif-zero, sinpif-tiny, sinpif-near, sinpif-nan, sinpif-rest, large-whole, digits-whole, not-whole}
+use Rattle.formulas.specs.Words.{sizeBits, fmla, narrowed}
+use Rattle.formulas.specs.HalfTurns.{pi, minusPi3Over6, sinpiNear, sineBy, byQuarter}
+use Rattle.formulas.proofs.Ways.{sinpif-zero, sinpif-tiny, sinpif-near, sinpif-nan, sinpif-rest, large-whole, digits-whole, not-whole}
 use Rattle.functions.proofs.sinpif.f_sinpif.Needs as need
 use Rattle.functions.proofs.sinpif.f_sinpif.Needs.{then-x-abs-ge1258291200·by·then-x-abs-ge1258291200, then-x-abs-ge1258291200·by·else-x-abs-ge1258291200·then-is-integerf}
 

@@ -4,8 +4,8 @@ use native.Mathlib.Omega.{arith}
 use Prim.Native.Nat.{_%_}
 use lib.Ieee.{neg}
 use Rattle.reducers.specs.Exact.{modTurn}
-use Rattle.functions.specs.HalfTurns.{sineBy}
-use Rattle.functions.proofs.Ways.{sine-last, quarter-at}
+use Rattle.formulas.specs.HalfTurns.{sineBy}
+use Rattle.formulas.proofs.Ways.{sine-last, quarter-at}
 use Rattle.functions.proofs.sinpif.sinpi_by_quarter.Needs as need
 
 pub returns-in-rest : need.returns-in-rest

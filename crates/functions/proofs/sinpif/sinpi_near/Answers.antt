@@ -1,6 +1,6 @@
 use mathlib.Core.Path.{refl}
 use lib.Ieee.{nanBits}
-use Rattle.functions.specs.HalfTurns.{sinpiNear}
+use Rattle.formulas.specs.HalfTurns.{sinpiNear}
 use Rattle.functions.proofs.sinpif.sinpi_near.Needs as need
 
 pub float-from-bits-f-polyeval5 : need.float-from-bits-f-polyeval5

@@ -2,9 +2,9 @@ use mathlib.Core.Path.{ap, sym, _∙_}
 use native.Mathlib.Omega.{arith}
 use lib.Ieee.{nanBits, ofBits, ofFields}
 use Rattle.reducers.specs.Reduce.{reduce}
-use Rattle.functions.specs.Words.{fmla, narrowed, minusTiny, tangentAt}
-use Rattle.functions.specs.Radians.{tanNear}
-use Rattle.functions.proofs.Ways.{tanf-zero, tanf-line, tanf-near, tanf-nan, tanf-far}
+use Rattle.formulas.specs.Words.{fmla, narrowed, minusTiny, tangentAt}
+use Rattle.formulas.specs.Radians.{tanNear}
+use Rattle.formulas.proofs.Ways.{tanf-zero, tanf-line, tanf-near, tanf-nan, tanf-far}
 use Rattle.functions.proofs.tanf.f_tanf.Needs as need
 
 pub returns-then-x-abs-eq0 : need.returns-then-x-abs-eq0

@@ -5,8 +5,8 @@ use Prim.Native.Nat.{_<_}
 use lib.Ieee.{ofBits, ofFields}
 use Rattle.reducers.specs.Reduce.{reducePi}
 use Rattle.reducers.specs.Exact.{modTurn}
-use Rattle.functions.specs.HalfTurns.{tanpiAt}
-use Rattle.functions.proofs.Ways.{tanpif-nan, tanpif-even, tanpif-rest}
+use Rattle.formulas.specs.HalfTurns.{tanpiAt}
+use Rattle.formulas.proofs.Ways.{tanpif-nan, tanpif-even, tanpif-rest}
 use Rattle.functions.proofs.tanpif.f_tanpif.Needs as need
 
 pub returns-then-x-abs-ge-INFINITE : need.returns-then-x-abs-ge-INFINITE

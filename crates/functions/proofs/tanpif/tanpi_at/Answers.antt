@@ -3,9 +3,9 @@ use mathlib.Core.Bool.{true, false, cond}
 use native.Mathlib.Omega.{arith}
 use Prim.Native.Nat.{_<_}
 use lib.Ieee.{neg, inf, ofBits, ofFields}
-use Rattle.functions.specs.Words.{zeroOf}
-use Rattle.functions.proofs.Tests.{yes-le, no-le, clash}
-use Rattle.functions.proofs.Ways.{tangent-whole, tangent-half, tangent-quarter, tangent-quarters, tangent-other, tangent-between}
+use Rattle.formulas.specs.Words.{zeroOf}
+use Rattle.formulas.proofs.Tests.{yes-le, no-le, clash}
+use Rattle.formulas.proofs.Ways.{tangent-whole, tangent-half, tangent-quarter, tangent-quarters, tangent-other, tangent-between}
 use Rattle.functions.proofs.tanpif.tanpi_at.Needs as need
 use Rattle.functions.proofs.tanpif.tanpi_at.Needs.{in-rest·by·in-0-2·else-y-2, then-y·else-is-odd, else-y, in-rest·by·in-16-2·else-y-4, then-y-3·else-is-odd-2, else-y-3, in-rest·by·in-8·else-y-5, in-rest·by·in-24·else-y-6, in-rest·by·in-rest·}
 

@@ -3,9 +3,9 @@ use native.Mathlib.Omega.{arith}
 use native.Mathlib.Nat.{mod-eq-of-lt}
 use lib.Ieee.{nanBits, binary64, mul}
 use Rattle.table.specs.Tangents.{tangentOf, tableTangent, tanY}
-use Rattle.functions.specs.Words.{fmla, narrowed}
-use Rattle.functions.specs.HalfTurns.{pi, pi3Over3}
-use Rattle.functions.proofs.Ways.{tanpi-tiny, tanpi-table}
+use Rattle.formulas.specs.Words.{fmla, narrowed}
+use Rattle.formulas.specs.HalfTurns.{pi, pi3Over3}
+use Rattle.formulas.proofs.Ways.{tanpi-tiny, tanpi-table}
 use Rattle.functions.proofs.tanpif.tanpi_by_table.Needs as need
 
 pub float-from-bits-f-fmla : need.float-from-bits-f-fmla

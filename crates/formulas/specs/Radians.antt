@@ -5,7 +5,7 @@ use lib.Dec.{leb, ltb, eqb}
 use lib.Ieee.{Float, nan, binary32, binary64, ofBits, mul}
 use Rattle.forms.specs.Polyeval.{polyeval5}
 use Rattle.reducers.specs.Reduce.{reduce}
-use Rattle.functions.specs.Words.{sizeBits, fmla, narrowed, one, minusTiny, sineAt, cosineAt, tangentAt}
+use Rattle.formulas.specs.Words.{sizeBits, fmla, narrowed, one, minusTiny, sineAt, cosineAt, tangentAt}
 
 -- sin(x)/x on [0, π/16], even powers up to 8, the first coefficient 1
 abbrev pub sinX2 : Float

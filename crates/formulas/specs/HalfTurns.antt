@@ -9,8 +9,8 @@ use Rattle.forms.specs.Polyeval.{polyeval5, polyeval6, estrin7}
 use Rattle.reducers.specs.Reduce.{reducePi, reduceQuarter}
 use Rattle.reducers.specs.Exact.{modTurn}
 use Rattle.table.specs.Tangents.{tangent64}
-use Rattle.functions.specs.Words.{sizeBits, fmla, narrowed, one, zero64, minusTiny, zeroOf}
-use Rattle.functions.specs.Radians.{infinite}
+use Rattle.formulas.specs.Words.{sizeBits, fmla, narrowed, one, zero64, minusTiny, zeroOf}
+use Rattle.formulas.specs.Radians.{infinite}
 
 -- an f64 by its bits
 abbrev c : ℕ → Float

@@ -4,10 +4,10 @@ use lib.Count.{trailingZeros}
 use lib.Ieee.{binary32, binary64, ofBits, ofFields, odd, toBits, size, round, add, sub, mul, div, neg, eq, toSigned}
 use Rattle.std.specs.Floats.{roundAway, wholeBy, nearestIn, negative, withSign}
 use Rattle.reducers.specs.Reduce.{reducePi, reduceQuarter}
-use Rattle.functions.specs.Words.{onWord}
-use Rattle.functions.specs.Radians.{sinf, cosOf, cosf}
-use Rattle.functions.specs.HalfTurns.{sinpiY, cospiY, sinpif, cospiOf, cospif, tanpiBy, tanpiAt, tanpif}
-use Rattle.functions.specs.Tried.{Tried}
+use Rattle.formulas.specs.Words.{onWord}
+use Rattle.formulas.specs.Radians.{sinf, cosOf, cosf}
+use Rattle.formulas.specs.HalfTurns.{sinpiY, cospiY, sinpif, cospiOf, cospif, tanpiBy, tanpiAt, tanpif}
+use Rattle.formulas.specs.Tried.{Tried}
 
 sinf-minus-zero : onWord sinf 0x80000000 ≡ 0x80000000
 unfolding sinf ofBits ofFields odd trailingZeros toBits size round add sub mul neg eq toSigned wholeBy nearestIn negative withSign

@@ -10,10 +10,10 @@ use Rattle.rounding.specs.Bits.{wholeBits, oddBits}
 use Rattle.reducers.specs.Reduce.{reduce, reducePi, reduceQuarter}
 use Rattle.reducers.specs.Exact.{modTurn}
 use Rattle.table.specs.Tangents.{tangent64}
-use Rattle.functions.specs.Words.{sizeBits, fmla, narrowed, one, zero64, minusTiny, zeroOf, sineAt, cosineAt, tangentAt}
-use Rattle.functions.specs.Radians.{sinNear, cosNear, tanNear, infinite, sinf, cosOf, tanf}
-use Rattle.functions.specs.HalfTurns.{pi, minusPi3Over6, pi3Over3, sinpiNear, cospiNear, sineBy, cosineBy, byQuarter, sinpif, cospiOf, tanpiBy, tanpiAt, tanpif}
-use Rattle.functions.proofs.Tests.{yes-le, no-le, yes-lt, no-lt, yes-eq, no-eq, or-right}
+use Rattle.formulas.specs.Words.{sizeBits, fmla, narrowed, one, zero64, minusTiny, zeroOf, sineAt, cosineAt, tangentAt}
+use Rattle.formulas.specs.Radians.{sinNear, cosNear, tanNear, infinite, sinf, cosOf, tanf}
+use Rattle.formulas.specs.HalfTurns.{pi, minusPi3Over6, pi3Over3, sinpiNear, cospiNear, sineBy, cosineBy, byQuarter, sinpif, cospiOf, tanpiBy, tanpiAt, tanpif}
+use Rattle.formulas.proofs.Tests.{yes-le, no-le, yes-lt, no-lt, yes-eq, no-eq, or-right}
 
 -- ---- sinf
 pub sinf-zero : (x : Float) → sizeBits x ≡ 0 → sinf x ≡ x
@@ -149,10 +149,10 @@ unfolding tanpif
 tanpif-rest x h = rw (no-le infinite (sizeBits x) (omega arith), no-le 0x4b800000 (sizeBits x) h) refl
 
 -- ---- quarters
-pub sine-last : (k : ℕ) (y : Float) → k ≡ 3 → neg (Rattle.functions.specs.HalfTurns.cospiY y) ≡ sineBy k y
+pub sine-last : (k : ℕ) (y : Float) → k ≡ 3 → neg (Rattle.formulas.specs.HalfTurns.cospiY y) ≡ sineBy k y
 sine-last k y e = sym (ap (λ z. sineBy z y) e)
 
-pub cosine-last : (k : ℕ) (y : Float) → k ≡ 3 → Rattle.functions.specs.HalfTurns.sinpiY y ≡ cosineBy k y
+pub cosine-last : (k : ℕ) (y : Float) → k ≡ 3 → Rattle.formulas.specs.HalfTurns.sinpiY y ≡ cosineBy k y
 cosine-last k y e = sym (ap (λ z. cosineBy z y) e)
 
 pub quarter-at : (f : ℕ → Float → Float) (x : Float) (r : Float × lib.IntN.ℤ) (j : ℕ) → r ≡ reduceQuarter x → j ≡ modTurn (r .1) → f (j % 4) (r .0) ≡ byQuarter f (reduceQuarter x)

@@ -2,9 +2,9 @@
 use mathlib.Core.Path.{_≡_}
 use lib.Ieee.{binary64, ofBits, toBits}
 use Rattle.std.specs.Floats.{roundAway}
-use Rattle.functions.specs.Words.{onWord}
-use Rattle.functions.specs.Radians.{sinf, cosf}
-use Rattle.functions.specs.HalfTurns.{sinpif, cospif, tanpif}
+use Rattle.formulas.specs.Words.{onWord}
+use Rattle.formulas.specs.Radians.{sinf, cosf}
+use Rattle.formulas.specs.HalfTurns.{sinpif, cospif, tanpif}
 
 -- zeros, one, a NaN for an infinity, whole numbers, halves and quarters; and rounding just below one half
 pub record Tried : Type 0 where

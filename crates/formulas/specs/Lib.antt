@@ -1,0 +1,4 @@
+pub mod Words
+pub mod Radians
+pub mod HalfTurns
+pub mod Tried
