@@ -34,7 +34,7 @@ impl Cause {
             Cause::Tag => 4,
             Cause::Length => 5,
             Cause::Value => 6,
-            Cause::Refused(e) => e.number(),
+            Cause::Refused(fault) => fault.number(),
         }
     }
 }

@@ -73,7 +73,7 @@ without-filled answer (f ∷ book) s =
     λ t. elim t as (λ t. cond t (filled answer f ∷ more) more ≡ map (filled answer) (cond t (f ∷ kept) kept)) [ true ↦ ap (λ l. filled answer f ∷ l) (without-filled answer book s) | false ↦ without-filled answer book s ] in
     go (not (eqb (f .sample) s))
 
-all-replaced : (P : Entry → Type 0) (book : List Entry) (s : ℕ) (e : Entry) → P e → All P book → All P (map (λ f. cond (eqb (f .sample) s) e f) book)
+pub all-replaced : (P : Entry → Type 0) (book : List Entry) (s : ℕ) (e : Entry) → P e → All P book → All P (map (λ f. cond (eqb (f .sample) s) e f) book)
 all-replaced P [] s e p h = h
 all-replaced P (f ∷ book) s e p h = (cond-both (eqb (f .sample) s) e f P (λ _. p) (λ _. h .0), all-replaced P book s e p (h .1))
 

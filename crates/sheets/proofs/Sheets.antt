@@ -13,14 +13,16 @@ use Rattle.std.specs.declared.option.Option.the-variants.{Some, None}
 use Rattle.std.specs.declared.result.Result.{Result}
 use Rattle.std.specs.declared.result.Result.the-variants.{Ok, Err}
 use Rattle.std.specs.Options.{isSome, Cases}
+use Rattle.std.specs.shelf.Lists.{Has}
 use Rattle.std.proofs.shelf.Tests.{cond-true, cond-false, lt-ltb, le-ltb}
-use Rattle.std.proofs.shelf.Lists.{length-map, length-take-le, map-push}
+use Rattle.std.proofs.shelf.Lists.{getD-map, length-map, length-take-le, map-push}
 use Rattle.exact.specs.Fraction.{Fraction}
 use Rattle.readers.specs.Meaning.{Steps, Reading, Keeps}
-use Rattle.sheets.specs.declared.fault.SheetFault.the-variants.{Taken, Absent, Full}
+use Rattle.sheets.specs.declared.fault.SheetFault.{SheetFault}
+use Rattle.sheets.specs.declared.fault.SheetFault.the-variants.{Taken, Absent, Full, NoPlace}
 use Rattle.sheets.specs.declared.row.Row.{Row}
 use Rattle.sheets.specs.Rows.{samples, among, distinct}
-use Rattle.sheets.specs.Book.{mayEnter, mayCorrect, mayWithdraw}
+use Rattle.sheets.specs.Book.{mayEnter, mayCorrect, mayWithdraw, mayPlace}
 use Rattle.sheets.specs.Sheets.{rowFor}
 use Rattle.shares.specs.Share.{sineShare, cosineShare}
 use mir.Syntax.{w32}
@@ -36,6 +38,16 @@ has-angle (Some u) a x k e = (u, refl)
 
 pub there : (rows : List Row) (s i : ℕ) → Found s rows i → among s (samples rows) ≡ true
 there rows s i f = found-among s (samples rows) i (omega (arith, f .within, length-map rows (λ (r : Row). r .sample))) (f .same)
+
+pub has-there : (rs : List Row) (r : Row) (s : ℕ) → r .sample ≡ s → Has rs r → among s (samples rs) ≡ true
+has-there rs r s e h = there rs s (h .0) (record { within = h .1; same = getD-map (λ (x : Row). x .sample) rs (h .0) r 0 (h .1) ∙ ap (λ (x : Row). x .sample) (h .2 r) ∙ e })
+
+-- may a row be asked for at a place
+pub placed : (rs : List Row) (i : ℕ) → i < length rs → Ok tt ≡ mayPlace (samples rs) i
+placed rs i h = sym (cond-true (ltb i (length (samples rs))) _ _ (lt-ltb i (length (samples rs)) (omega (arith, length-map rs (λ (x : Row). x .sample)))))
+
+pub unplaced : (rs : List Row) (i : ℕ) (e : SheetFault) → e ≡ NoPlace → length rs ≤ i → Err e ≡ mayPlace (samples rs) i
+unplaced rs i e p h = ap Err p ∙ sym (cond-false (ltb i (length (samples rs))) _ _ (le-ltb i (length (samples rs)) (omega (arith, length-map rs (λ (x : Row). x .sample)))))
 
 pub taken-if : (o : Option ℕ) (rows : List Row) (s : ℕ) → Cases o (among s (samples rows) ≡ false) (λ i. Found s rows i) → isSome o ≡ true → among s (samples rows) ≡ true
 taken-if (Some i) rows s f e = there rows s i f

@@ -10,6 +10,7 @@ use Rattle.readers.specs.Meaning.{Reading}
 use Rattle.shares.specs.Share.{sineShare, cosineShare}
 use Rattle.sheets.specs.declared.row.Row.{Row}
 use Rattle.sheets.specs.declared.sheet.Sheet.{Sheet}
+use Rattle.sheets.specs.declared.totals.Totals.{Totals}
 use Rattle.sheets.specs.Standing.{standing}
 
 -- the same elements, each as often, in any order
@@ -19,6 +20,10 @@ InAnyOrder xs ys = List·Permᴰ xs ys
 -- the rows of a sheet, in the order of their places
 abbrev pub rows : {R : Type 0} → Sheet R → List Row
 rows s = standing (s .table)
+
+-- the totals that a sheet keeps
+abbrev pub totalsOf : {R : Type 0} → Sheet R → Totals
+totalsOf s = s .table .totals
 
 -- the sine share of what a reader answered
 abbrev pub readSine : Reading → ℤ

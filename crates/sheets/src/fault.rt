@@ -24,7 +24,7 @@ impl SheetFault {
         ensures { λ r. ⌜ r ≡ sheetNumber self ⌝ }
     {
         match self {
-            SheetFault::Unread(e) => e.number(),
+            SheetFault::Unread(fault) => fault.number(),
             SheetFault::Taken => 8,
             SheetFault::Absent => 9,
             SheetFault::Full => 10,

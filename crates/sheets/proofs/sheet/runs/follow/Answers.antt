@@ -1,24 +1,14 @@
 use mathlib.Core.Path.{_≡_, refl, sym, ap, subst, _∙_}
-use mathlib.Core.Bool.{true}
-use mathlib.Core.List.{List}
-use Prim.Native.Nat.{ℕ, _<_, _≤_}
-use native.Mathlib.Omega.{arith}
-use lib.Dec.{ltb}
-use lib.ListN.{length}
+use Prim.Native.Nat.{ℕ}
 use Rattle.std.specs.declared.result.Result.{Result}
 use Rattle.std.specs.declared.result.Result.the-variants.{Ok, Err}
 use Rattle.std.specs.Results.{Cases}
-use Rattle.std.specs.shelf.Lists.{Has}
-use Rattle.std.proofs.shelf.Lists.{getD-map, length-map}
 use Rattle.std.proofs.shelf.Results.{err-from-errBy}
-use Rattle.std.proofs.shelf.Tests.{cond-true, cond-false, lt-ltb, le-ltb}
-use Rattle.sheets.specs.declared.row.Row.{Row}
-use Rattle.sheets.specs.declared.fault.SheetFault.{SheetFault}
-use Rattle.sheets.specs.declared.fault.SheetFault.the-variants.{NoPlace}
-use Rattle.sheets.proofs.Sheets.{there}
+use Rattle.std.proofs.shelf.Tests.{cond-true}
+use Rattle.sheets.proofs.Sheets.{has-there, placed, unplaced}
 use borrow.Author.Needs.{needs}
 use Rattle.readers.specs.Meaning.{Steps, Reading}
-use Rattle.sheets.specs.Book.{asked, mayPlace, written}
+use Rattle.sheets.specs.Book.{asked, written}
 use Rattle.sheets.specs.Rows.{samples, among}
 use Rattle.sheets.specs.Sheets.{rows}
 use Rattle.sheets.specs.Runs.{Grown}
@@ -63,16 +53,6 @@ returns-in-Withdraw g c =
       reader = c .withdraw .ensures .reader;
       same = c .withdraw .ensures .same;
     }
-
-has-there : (rs : List Row) (r : Row) (s : ℕ) → r .sample ≡ s → Has rs r → among s (samples rs) ≡ true
-has-there rs r s e h = there rs s (h .0) (record { within = h .1; same = getD-map (λ (x : Row). x .sample) rs (h .0) r 0 (h .1) ∙ ap (λ (x : Row). x .sample) (h .2 r) ∙ e })
-
--- may a row be asked for at a place
-placed : (rs : List Row) (i : ℕ) → i < length rs → Ok tt ≡ mayPlace (samples rs) i
-placed rs i h = sym (cond-true (ltb i (length (samples rs))) _ _ (lt-ltb i (length (samples rs)) (omega (arith, length-map rs (λ (x : Row). x .sample)))))
-
-unplaced : (rs : List Row) (i : ℕ) (e : SheetFault) → e ≡ NoPlace → length rs ≤ i → Err e ≡ mayPlace (samples rs) i
-unplaced rs i e p h = ap Err p ∙ sym (cond-false (ltb i (length (samples rs))) _ _ (le-ltb i (length (samples rs)) (omega (arith, length-map rs (λ (x : Row). x .sample)))))
 
 -- where nothing was changed
 unchanged : {X E : Type 0} {P : Type 0} (r : Result X E) → P → Cases r (λ _. Unit {0}) (λ _. P)

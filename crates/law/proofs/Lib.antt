@@ -1,0 +1,5 @@
+pub mod Sums
+pub mod Books
+pub mod Near
+pub mod Apart
+pub mod Replies
