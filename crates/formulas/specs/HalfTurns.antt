@@ -16,7 +16,7 @@ use Rattle.formulas.specs.Radians.{infinite}
 abbrev c : ℕ → Float
 c = ofBits binary64
 
--- π, -π³/6 and π³/3
+-- π
 abbrev pub pi : Float
 pi = c 0x400921fb54442d18
 
@@ -44,21 +44,21 @@ sinpiNear x = mul binary64 x (polyeval5 fmla (mul binary64 x x) pi (c 0xc014abbc
 unfoldable pub cospiNear : Float → Float
 cospiNear x = polyeval5 fmla (mul binary64 x x) one (c 0xc013bd3cc9be43f7) (c 0x40103c1f08091fe0) (c 0xbff55d3ba3d94835) (c 0x3fce173c2a00e74e)
 
--- sine of k quarter turns of the circle's half and y more, by k modulo 4
+-- sin(π (k/2 + y)), by k modulo 4
 abbrev pub sineBy : ℕ → Float → Float
 sineBy zero y = sinpiY y
 sineBy (suc zero) y = cospiY y
 sineBy (suc (suc zero)) y = sinpiY (neg y)
 sineBy (suc (suc (suc k))) y = neg (cospiY y)
 
--- cosine alike; at odd halves it is +0
+-- cos(π (k/2 + y)) alike; at halves it is +0
 abbrev pub cosineBy : ℕ → Float → Float
 cosineBy zero y = cospiY y
 cosineBy (suc zero) y = cond (eq y zero64) zero64 (sinpiY (neg y))
 cosineBy (suc (suc zero)) y = neg (cospiY y)
 cosineBy (suc (suc (suc k))) y = sinpiY y
 
--- by quarter turns: f of k modulo 4 and y
+-- f of k modulo 4 and y
 abbrev pub byQuarter : (ℕ → Float → Float) → Float × ℤ → Float
 byQuarter f r = f (modTurn (r .1) % 4) (r .0)
 

@@ -23,11 +23,11 @@ fmla a b c = add binary64 (mul binary64 a b) c
 abbrev pub narrowed : Float → Float
 narrowed = nearestIn binary32
 
--- 1, 0 and -2 ^ -25
+-- 1
 abbrev pub one : Float
 one = ofBits binary64 0x3ff0000000000000
 
--- zero
+-- 0
 abbrev pub zero64 : Float
 zero64 = ofBits binary64 0
 
@@ -39,7 +39,7 @@ minusTiny = ofBits binary64 0xbe60000000000000
 abbrev pub zeroOf : Float → Float
 zeroOf x = withSign (negative x) (ofBits binary32 0)
 
--- the sine, the cosine and the tangent of a reduced angle, y and k
+-- the sine of a reduced angle, its rest y and its steps k
 abbrev pub sineAt : Float × ℤ → Float
 sineAt r = sine64 (r .0) (modTurn (r .1))
 

@@ -22,15 +22,15 @@ use Rattle.sheets.proofs.Runs.{all-replaced}
 abbrev pub Angled : (ℕ → Steps) → Entry → Type 0
 Angled steps e = isSome (steps (e .word)) ≡ true
 
-all-allowed : (P : Entry → Type 0) (r : Result (Unit {0}) SheetFault) (es fs : List Entry) → All P es → All P fs → All P (allowed r es fs)
+pub all-allowed : (P : Entry → Type 0) (r : Result (Unit {0}) SheetFault) (es fs : List Entry) → All P es → All P fs → All P (allowed r es fs)
 all-allowed P (Ok u) es fs h k = h
 all-allowed P (Err e) es fs h k = k
 
-all-entered : (P : Entry → Type 0) (o : Steps) (book : List Entry) (e : Entry) → (isSome o ≡ true → P e) → All P book → All P (allowed (mayEnter o (given book) (e .sample)) (book ++ e ∷ []) book)
+pub all-entered : (P : Entry → Type 0) (o : Steps) (book : List Entry) (e : Entry) → (isSome o ≡ true → P e) → All P book → All P (allowed (mayEnter o (given book) (e .sample)) (book ++ e ∷ []) book)
 all-entered P None book e p h = h
 all-entered P (Some u) book e p h = all-allowed P (mayEnter (Some u) (given book) (e .sample)) (book ++ e ∷ []) book (all-push P book e h (p refl)) h
 
-all-corrected : (P : Entry → Type 0) (o : Steps) (book : List Entry) (e : Entry) → (isSome o ≡ true → P e) → All P book → All P (allowed (mayCorrect o (given book) (e .sample)) (map (λ f. cond (eqb (f .sample) (e .sample)) e f) book) book)
+pub all-corrected : (P : Entry → Type 0) (o : Steps) (book : List Entry) (e : Entry) → (isSome o ≡ true → P e) → All P book → All P (allowed (mayCorrect o (given book) (e .sample)) (map (λ f. cond (eqb (f .sample) (e .sample)) e f) book) book)
 all-corrected P None book e p h = h
 all-corrected P (Some u) book e p h = all-allowed P (mayCorrect (Some u) (given book) (e .sample)) (map (λ f. cond (eqb (f .sample) (e .sample)) e f) book) book (all-replaced P book (e .sample) e (p refl) h) h
 

@@ -2,3 +2,4 @@ pub mod Fields
 pub mod Replay
 pub mod Openings
 pub mod Pages
+pub mod Outcomes

@@ -3,3 +3,4 @@ pub mod Fields
 pub mod Record
 pub mod Reached
 pub mod Page
+pub mod Outcome

@@ -2,6 +2,7 @@
 ghost use mathlib.Core.Path.{_≡_};
 ghost use Prim.Native.Nat.{_+_, _<_, _≤_};
 ghost use lib.ListN.{length};
+ghost use Rattle.record.specs.Outcome.{Means};
 ghost use Rattle.record.specs.Page.{pasted, lines, refusal, outcomeOf, Reported, Told};
 use crate::edition::Edition;
 use crate::fault::Cause;
@@ -38,8 +39,10 @@ fn write_lines(
 }
 
 // The report of a record, from the buffer's first byte on, and its length; a refusal writes nothing.
+// The first no decides; the printed totals are within 33 units for each cm/s standing of the exact ones.
 pub fn report(bytes: &[u8], buffer: &mut [u8]) -> Result<usize, RecordFault>
-    ensures { λ r. ⌜ Reported (outcomeOf (length (now (buffer .entry))) (now (bytes .entry))) r (now (buffer .entry)) (now (buffer .exit)) ⌝ }
+    ensures outcome { λ r. ⌜ Reported (outcomeOf (length (now (buffer .entry))) (now (bytes .entry))) r (now (buffer .entry)) (now (buffer .exit)) ⌝ }
+    ensures means { λ _. ⌜ Means (length (now (buffer .entry))) (now (bytes .entry)) (outcomeOf (length (now (buffer .entry))) (now (bytes .entry))) ⌝ }
 {
     if buffer.len() < ROOM {
         return Err(RecordFault {

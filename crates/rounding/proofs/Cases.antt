@@ -4,16 +4,11 @@ use native.Mathlib.Nat.{le-trans, lt-of-le-of-lt, one-mul, div-mul-le-self, mod-
 use native.Mathlib.Omega.{arith}
 use mathlib.Core.Path.{_≡_, refl, ap, sym, _∙_, subst}
 use mathlib.Core.Bool.{Bool, true, false, cond}
-use lib.Dec.{ltb, lt→ltb, lit≤, lit<}
+use lib.Dec.{ltb, lit<}
+use borrow.Author.Tests.{lt-ltb, le-ltb}
 use lib.Pow.{pow-mono}
 use lib.Ieee.{Format, binary32, binary64, prec, emax, low, hid, top}
 use Rattle.rounding.specs.Round.{exponentField, signBit, cutAt, roundBits}
-
-yes-lt : (a n : ℕ) → a < n → ltb a n ≡ true
-yes-lt a n h = lib.Ieee.Bits.is-true (ltb a n) (lt→ltb a n h)
-
-no-lt : (a n : ℕ) → n ≤ a → ltb a n ≡ false
-no-lt a n h = lib.Ieee.Bits.is-false (ltb a n) (lib.Arith.le→nltb a n h)
 
 -- what is left after the first and the second test
 abbrev third : Format → ℕ → ℕ
@@ -27,7 +22,7 @@ unfolding roundBits
 from-first f b t e = ap (λ z. cond z (signBit f b) (second f b)) e
 
 from-second : (f : Format) (b : ℕ) (t : Bool) → emax f - 1 ≤ exponentField f b → ltb (exponentField f b) (emax f) ≡ t → roundBits f b ≡ cond t (signBit f b + emax f * hid f) (third f b)
-from-second f b t h e = from-first f b false (no-lt (exponentField f b) (emax f - 1) h) ∙ ap (λ z. cond z (signBit f b + emax f * hid f) (third f b)) e
+from-second f b t h e = from-first f b false (le-ltb (exponentField f b) (emax f - 1) h) ∙ ap (λ z. cond z (signBit f b + emax f * hid f) (third f b)) e
 
 less : (f : Format) (j : ℕ) → emax f ≤ j → emax f - 1 ≤ j
 less binary32 j h = omega arith
@@ -39,14 +34,14 @@ under binary64 j h = omega arith
 
 from-third : (f : Format) (b : ℕ) (t : Bool) → emax f ≤ exponentField f b → ltb (exponentField f b) (suc (low f)) ≡ t → roundBits f b ≡ cond t (cutAt b (2 ^ (suc (low f) - exponentField f b))) b
 from-third f b t h e =
-    from-second f b false (less f (exponentField f b) h) (no-lt (exponentField f b) (emax f) h)
+    from-second f b false (less f (exponentField f b) h) (le-ltb (exponentField f b) (emax f) h)
     ∙ ap (λ z. cond z (cutAt b (2 ^ (suc (low f) - exponentField f b))) b) e
 
 pub case-low : (f : Format) (b : ℕ) → exponentField f b < emax f - 1 → signBit f b ≡ roundBits f b
-case-low f b h = sym (from-first f b true (yes-lt (exponentField f b) (emax f - 1) h))
+case-low f b h = sym (from-first f b true (lt-ltb (exponentField f b) (emax f - 1) h))
 
 pub case-one : (f : Format) (b : ℕ) → emax f - 1 ≤ exponentField f b → exponentField f b < emax f → signBit f b + emax f * hid f ≡ roundBits f b
-case-one f b h k = sym (from-second f b true h (yes-lt (exponentField f b) (emax f) k))
+case-one f b h k = sym (from-second f b true h (lt-ltb (exponentField f b) (emax f) k))
 
 -- a unit in a word
 unit-small : (f : Format) (j : ℕ) → emax f ≤ j → 2 ^ (suc (low f) - j) ≤ hid f
@@ -64,10 +59,10 @@ unit-is f j h = ap (λ z. z % (2 * top f)) (one-mul (2 ^ (suc (low f) - j))) ∙
     word binary64 = lit< tt
 
 pub case-mid : (f : Format) (b : ℕ) → emax f ≤ exponentField f b → exponentField f b < suc (low f) → (u : ℕ) → u ≡ (1 * 2 ^ (suc (low f) - exponentField f b)) % (2 * top f) → cutAt b u ≡ roundBits f b
-case-mid f b h k u e = ap (cutAt b) (e ∙ unit-is f (exponentField f b) h) ∙ sym (from-third f b true h (yes-lt (exponentField f b) (suc (low f)) k))
+case-mid f b h k u e = ap (cutAt b) (e ∙ unit-is f (exponentField f b) h) ∙ sym (from-third f b true h (lt-ltb (exponentField f b) (suc (low f)) k))
 
 pub case-high : (f : Format) (b : ℕ) → suc (low f) ≤ exponentField f b → b ≡ roundBits f b
-case-high f b h = sym (from-third f b false (under f (exponentField f b) h) (no-lt (exponentField f b) (suc (low f)) h))
+case-high f b h = sym (from-third f b false (under f (exponentField f b) h) (le-ltb (exponentField f b) (suc (low f)) h))
 
 -- the sum and the product fit the word
 pub mid-sum : (f : Format) (b : ℕ) → b < 2 * top f → emax f ≤ exponentField f b → exponentField f b < suc (low f) → b + (1 * 2 ^ (suc (low f) - exponentField f b)) % (2 * top f) / 2 < 2 * top f

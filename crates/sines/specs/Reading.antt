@@ -1,13 +1,16 @@
 -- What a line asks, and its result. Definitions only.
 use Prim.Native.Nat.{ℕ, _+_, _-_, _*_}
 use mathlib.Core.Bool.{cond, _&&_}
-use mathlib.Core.List.{List, [], _∷_}
+use mathlib.Core.Path.{_≡_}
+use mathlib.Core.List.{List, [], _∷_, _++_}
+use lib.ListN.{length}
+use lib.Chars.{codes}
 use lib.Dec.{leb}
 use Rattle.std.specs.declared.option.Option.{Option}
 use Rattle.std.specs.declared.option.Option.the-variants.{Some, None}
-use Rattle.functions.specs.Words.{onWord}
-use Rattle.functions.specs.Radians.{sinf, cosf, tanf}
-use Rattle.functions.specs.HalfTurns.{sinpif, cospif, tanpif}
+use Rattle.formulas.specs.Words.{onWord}
+use Rattle.formulas.specs.Radians.{sinf, cosf, tanf}
+use Rattle.formulas.specs.HalfTurns.{sinpif, cospif, tanpif}
 use Rattle.sines.specs.declared.request.Function.{Function}
 use Rattle.sines.specs.declared.request.Function.the-variants.{Sinf, Cosf, Tanf, Sinpif, Cospif, Tanpif}
 use Rattle.sines.specs.declared.request.Request.{Request}
@@ -30,7 +33,33 @@ abbrev pub wordOf : ℕ → List ℕ → Option ℕ
 wordOf w [] = Some w
 wordOf w (b ∷ l) = digitThen (digitOf b) (λ d. wordOf (w * 16 + d) l)
 
--- f at a word, as words
+-- the name of a function, in bytes
+abbrev pub nameOf : Function → List ℕ
+nameOf Sinf = codes "sinf"
+nameOf Cosf = codes "cosf"
+nameOf Tanf = codes "tanf"
+nameOf Sinpif = codes "sinpif"
+nameOf Cospif = codes "cospif"
+nameOf Tanpif = codes "tanpif"
+
+-- r is the function of that name, if it is one
+abbrev pub Named : List ℕ → Option Function → Type 0
+Named name (Some f) = name ≡ nameOf f
+Named name None = (f : Function) → name ≡ nameOf f → ⊥
+
+-- the line asks r: its function's name, a space and eight hex digits
+pub record Asks (line : List ℕ) (r : Request) : Type 0 where
+  pub text : List ℕ
+  pub is : line ≡ nameOf (r .function) ++ 32 ∷ text
+  pub eight : length text ≡ 8
+  pub digits : wordOf 0 text ≡ Some (r .word)
+
+-- what the line asks, if it asks anything
+abbrev pub Read : List ℕ → Option Request → Type 0
+Read line (Some r) = Asks line r
+Read line None = (r : Request) → Asks line r → ⊥
+
+-- the word that a request asks for
 abbrev pub resultOf : Request → ℕ
 resultOf r =
     elim (r .function) [

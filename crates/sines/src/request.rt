@@ -1,5 +1,6 @@
 ghost use mathlib.Core.Path.{_≡_};
-ghost use Rattle.sines.specs.Reading.{digitOf, wordOf, resultOf};
+ghost use lib.ListN.{length};
+ghost use Rattle.sines.specs.Reading.{digitOf, wordOf, Named, Read, resultOf};
 use functions::luhvend_cosf;
 use functions::luhvend_cospif;
 use functions::luhvend_sinf;
@@ -20,7 +21,9 @@ pub enum Function {
 
 impl Function {
     // The function of that name.
-    pub fn named(name: &[u8]) -> Option<Function> {
+    pub fn named(name: &[u8]) -> Option<Function>
+        ensures { λ r. ⌜ Named (now (name .entry)) r ⌝ }
+    {
         match name {
             b"sinf" => Some(Function::Sinf),
             b"cosf" => Some(Function::Cosf),
@@ -42,12 +45,18 @@ pub struct Request {
 
 impl Request {
     // The line `NAME WORD`: a name, a space and eight hex digits.
-    pub fn read(line: &[u8]) -> Option<Request> {
-        let [name @ .., b' ', a, b, c, d, e, f, g, h] = line else {
+    pub fn read(line: &[u8]) -> Option<Request>
+        ensures { λ r. ⌜ Read (now (line .entry)) r ⌝ }
+    {
+        if line.len() < 9 {
             return None;
-        };
+        }
+        let (name, rest) = line.split_at(line.len() - 9);
+        if rest[0] != b' ' {
+            return None;
+        }
         let function = Function::named(name)?;
-        let word = word_of(&[*a, *b, *c, *d, *e, *f, *g, *h])?;
+        let word = word_of(&rest[1..])?;
         Some(Request { function, word })
     }
 
@@ -79,7 +88,8 @@ fn digit(b: u8) -> Option<u8>
 }
 
 // The word that eight hex digits write.
-fn word_of(text: &[u8; 8]) -> Option<u32>
+fn word_of(text: &[u8]) -> Option<u32>
+    requires { ⌜ length (now text) ≡ 8 ⌝ }
     ensures { λ r. ⌜ r ≡ wordOf 0 (now (text .entry)) ⌝ }
 {
     let mut word = 0;

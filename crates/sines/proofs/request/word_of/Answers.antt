@@ -1,7 +1,7 @@
 use borrow.Author.Needs.{needs}
 use mathlib.Core.Path.{_≡_, sym, subst, _∙_}
 use Prim.Native.Nat.{_+_, _*_, _^_, _<_, _≤_}
-use native.Mathlib.Nat.{lt-of-le-of-lt}
+use native.Mathlib.Nat.{le-of-eq}
 use native.Mathlib.Omega.{arith}
 use lib.ListN.{length, getD, drop}
 use Rattle.std.specs.declared.option.Option.the-variants.{Some, None}
@@ -21,7 +21,7 @@ mul-word c =
     let text = c .args .text .now in
     let i = c .loop-b .b-index in
     let h : i < length text = search needs in
-    let l : length text ≤ 8 = search needs in
+    let l : length text ≤ 8 = le-of-eq (c .pre) in
     let f : c .loop-b .word * 16 + c .in-Continue-d .d < 2 ^ 32 = word-fits text (c .loop-b .word) i h (c .loop-b .inv .0) (c .loop-b .inv .1) (c .in-Continue-d .d) (omega arith) (sym (c .digit .ensures) ∙ c .in-Continue-d .was tt) in
     record { fits = omega arith }
 
@@ -30,7 +30,7 @@ add-word c =
     let text = c .args .text .now in
     let i = c .loop-b .b-index in
     let h : i < length text = search needs in
-    let l : length text ≤ 8 = search needs in
+    let l : length text ≤ 8 = le-of-eq (c .pre) in
     let f : c .loop-b .word * 16 + c .in-Continue-d .d < 2 ^ 32 = word-fits text (c .loop-b .word) i h (c .loop-b .inv .0) (c .loop-b .inv .1) (c .in-Continue-d .d) (omega arith) (sym (c .digit .ensures) ∙ c .in-Continue-d .was tt) in
     record { fits = omega arith }
 
