@@ -12,7 +12,32 @@ use sheets::sheet::Sheet;
 use std::test::*;
 
 const RECORD: [u8; 26] = [
-    1, 0, 1, 6, 3, 0, 8, 0, 1, 3, 0xe8, 0, 0, 0, 0, 3, 0, 8, 0, 2, 1, 0xf4, 0x3f, 0, 0, 0,
+    1,
+    0,
+    1,
+    6,
+    3,
+    0,
+    8,
+    0,
+    1,
+    3,
+    0xe8,
+    0,
+    0,
+    0,
+    0,
+    3,
+    0,
+    8,
+    0,
+    2,
+    1,
+    0xf4,
+    0x3f,
+    0,
+    0,
+    0,
 ];
 
 // A buffer of 95 bytes is refused and left as it was; one of 96 has the report and nothing behind it.

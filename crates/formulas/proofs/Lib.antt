@@ -1,2 +1,14 @@
 pub mod Ways
 pub mod Tried
+pub mod Under
+pub mod Narrowed
+pub mod Angles
+pub mod Far
+pub mod Trees
+pub mod Near
+pub mod Radians
+pub mod Quarters
+pub mod Wholes
+pub mod HalfTurns
+pub mod Special
+pub mod Floats

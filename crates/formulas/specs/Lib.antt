@@ -2,3 +2,4 @@ pub mod Words
 pub mod Radians
 pub mod HalfTurns
 pub mod Tried
+pub mod Distance

@@ -1,5 +1,8 @@
 ghost use mathlib.Core.Path.{_≡_};
 ghost use Rattle.reducers.specs.Reduce.{reduce as reduced};
+ghost use Rattle.circle.specs.Circle.{exactCosine};
+ghost use Rattle.formulas.specs.Distance.{Near};
+ghost use Rattle.reducers.specs.Exact.{radianSteps};
 ghost use Rattle.formulas.specs.Words.{cosineAt};
 ghost use Rattle.formulas.specs.Radians.{cosNear, cosf};
 use crate::word::INFINITE;
@@ -39,8 +42,8 @@ fn cos_by_table(x: f64, x_abs: u32) -> f64
     cosine(rs, -rs.sin_k)
 }
 
-// The cosine of x radians.
-pub fn f_cosf(x: f32) -> f32
+// The plain path.
+fn cosf_gen_impl(x: f32) -> f32
     ensures { λ r. ⌜ r ≡ cosf x ⌝ }
 {
     let x_abs = size_bits(x);
@@ -59,4 +62,12 @@ pub fn f_cosf(x: f32) -> f32
         return f32::NAN;
     }
     narrow(cos_by_table(xd, x_abs))
+}
+
+// The cosine of x radians, within half a spacing at the answer and 2^-36 of the exact one.
+pub fn f_cosf(x: f32) -> f32
+    ensures is { λ r. ⌜ r ≡ cosf x ⌝ }
+    ensures near { λ r. ⌜ Near x r (exactCosine (radianSteps x)) ⌝ }
+{
+    cosf_gen_impl(x)
 }

@@ -1,5 +1,7 @@
 ghost use mathlib.Core.Path.{_≡_};
 ghost use Rattle.reducers.specs.Reduce.{reduceQuarter};
+ghost use Rattle.circle.specs.Circle.{exactCosine};
+ghost use Rattle.formulas.specs.Distance.{Near, halfTurnSteps};
 ghost use Rattle.formulas.specs.HalfTurns.{cospiNear, cosineBy, byQuarter, cospif};
 use crate::sincosf_eval::cospif_eval;
 use crate::sincosf_eval::sinpif_eval;
@@ -45,8 +47,8 @@ fn cospi_by_quarter(x: f64) -> f64
     }
 }
 
-// The cosine of x half turns, cos(pi*x).
-pub fn f_cospif(x: f32) -> f32
+// The plain path.
+fn cospif_gen_impl(x: f32) -> f32
     ensures { λ r. ⌜ r ≡ cospif x ⌝ }
 {
     let x_abs = size_bits(x);
@@ -70,4 +72,12 @@ pub fn f_cospif(x: f32) -> f32
         return if is_odd_integerf(x) { -1.0 } else { 1.0 };
     }
     narrow(cospi_by_quarter(xd))
+}
+
+// The cosine of x half turns, cos(pi*x), within half a spacing at the answer and 2^-36 of the exact one.
+pub fn f_cospif(x: f32) -> f32
+    ensures is { λ r. ⌜ r ≡ cospif x ⌝ }
+    ensures near { λ r. ⌜ Near x r (exactCosine (halfTurnSteps x)) ⌝ }
+{
+    cospif_gen_impl(x)
 }

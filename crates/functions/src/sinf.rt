@@ -1,5 +1,8 @@
 ghost use mathlib.Core.Path.{_≡_};
 ghost use Rattle.reducers.specs.Reduce.{reduce as reduced};
+ghost use Rattle.circle.specs.Circle.{exactSine};
+ghost use Rattle.formulas.specs.Distance.{Near};
+ghost use Rattle.reducers.specs.Exact.{radianSteps};
 ghost use Rattle.formulas.specs.Words.{sineAt};
 ghost use Rattle.formulas.specs.Radians.{sinNear, sinf};
 use crate::word::INFINITE;
@@ -39,8 +42,8 @@ fn sin_by_table(x: f64, x_abs: u32) -> f64
     sine(rs)
 }
 
-// The sine of x radians.
-pub fn f_sinf(x: f32) -> f32
+// The plain path.
+fn sinf_gen_impl(x: f32) -> f32
     ensures { λ r. ⌜ r ≡ sinf x ⌝ }
 {
     let x_abs = size_bits(x);
@@ -63,4 +66,12 @@ pub fn f_sinf(x: f32) -> f32
         return f32::NAN;
     }
     narrow(sin_by_table(xd, x_abs))
+}
+
+// The sine of x radians, within half a spacing at the answer and 2^-36 of the exact one.
+pub fn f_sinf(x: f32) -> f32
+    ensures is { λ r. ⌜ r ≡ sinf x ⌝ }
+    ensures near { λ r. ⌜ Near x r (exactSine (radianSteps x)) ⌝ }
+{
+    sinf_gen_impl(x)
 }

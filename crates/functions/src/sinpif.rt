@@ -1,5 +1,7 @@
 ghost use mathlib.Core.Path.{_≡_};
 ghost use Rattle.reducers.specs.Reduce.{reduceQuarter};
+ghost use Rattle.circle.specs.Circle.{exactSine};
+ghost use Rattle.formulas.specs.Distance.{Near, halfTurnSteps};
 ghost use Rattle.formulas.specs.HalfTurns.{sinpiNear, sineBy, byQuarter, sinpif};
 use crate::sincosf_eval::cospif_eval;
 use crate::sincosf_eval::sinpif_eval;
@@ -44,8 +46,8 @@ fn sinpi_by_quarter(x: f64) -> f64
     }
 }
 
-// The sine of x half turns, sin(pi*x).
-pub fn f_sinpif(x: f32) -> f32
+// The plain path.
+fn sinpif_gen_impl(x: f32) -> f32
     ensures { λ r. ⌜ r ≡ sinpif x ⌝ }
 {
     let x_abs = size_bits(x);
@@ -78,4 +80,12 @@ pub fn f_sinpif(x: f32) -> f32
         return copysignfk(0.0, x);
     }
     narrow(sinpi_by_quarter(xd))
+}
+
+// The sine of x half turns, sin(pi*x), within half a spacing at the answer and 2^-36 of the exact one.
+pub fn f_sinpif(x: f32) -> f32
+    ensures is { λ r. ⌜ r ≡ sinpif x ⌝ }
+    ensures near { λ r. ⌜ Near x r (exactSine (halfTurnSteps x)) ⌝ }
+{
+    sinpif_gen_impl(x)
 }

@@ -18,10 +18,20 @@ use std::test::*;
 // A pile of mounts over whole steps against half turns under the same pile: 8 steps are a quarter of a half turn.
 #[test]
 fn a_reader_of_our_own_under_mounts() -> Result<(), Fail> {
-    let Ok(one) = Turned::new(Mirrored { below: WholeSteps {} }, 3) else {
+    let Ok(one) = Turned::new(
+        Mirrored {
+            below: WholeSteps {},
+        },
+        3,
+    ) else {
         return Err(Fail::new("three quarters are allowed"));
     };
-    let Ok(other) = Turned::new(Mirrored { below: HalfTurns {} }, 3) else {
+    let Ok(other) = Turned::new(
+        Mirrored {
+            below: HalfTurns {},
+        },
+        3,
+    ) else {
         return Err(Fail::new("three quarters are allowed"));
     };
     let calls = [Call::Enter(Entry {

@@ -53,7 +53,7 @@ use Rattle.record.proofs.Fields.{field-whole}
 called : (steps : ℕ → Steps) (book : List Entry) (call : Call) → (asked steps (given book) call ≡ Ok tt) ⊎ ((e : SheetFault) × (asked steps (given book) call ≡ Err e))
 called steps book call =
     let go : (q : Result (Unit {0}) SheetFault) → asked steps (given book) call ≡ q → (asked steps (given book) call ≡ Ok tt) ⊎ ((e : SheetFault) × (asked steps (given book) call ≡ Err e)) =
-        λ q. elim q as (λ q. asked steps (given book) call ≡ q → (asked steps (given book) call ≡ Ok tt) ⊎ ((e : SheetFault) × (asked steps (given book) call ≡ Err e))) [ Ok u ↦ λ h. inl h | Err e ↦ λ h. inr (e, h) ] in
+    λ q. elim q as (λ q. asked steps (given book) call ≡ q → (asked steps (given book) call ≡ Ok tt) ⊎ ((e : SheetFault) × (asked steps (given book) call ≡ Err e))) [ Ok u ↦ λ h. inl h | Err e ↦ λ h. inr (e, h) ] in
     go (asked steps (given book) call) refl
 
 -- a field gets a yes and leaves the next book, or a no and its cause
@@ -81,7 +81,7 @@ item-made steps book f (item.Put call) h =
 pub field-made : (steps : ℕ → Steps) (book : List Entry) (f : Field) → Passes steps book f ⊎ Fails steps book f
 field-made steps book f =
     let go : (q : Result Item Cause) → f .said ≡ q → Passes steps book f ⊎ Fails steps book f =
-        λ q. elim q as (λ q. f .said ≡ q → Passes steps book f ⊎ Fails steps book f) [ Ok i ↦ λ h. item-made steps book f i h | Err c ↦ λ h. inr (record { cause = c; no′ = inl h; is = ap (λ q. located (f .at) (andThen q (put steps book))) h }) ] in
+    λ q. elim q as (λ q. f .said ≡ q → Passes steps book f ⊎ Fails steps book f) [ Ok i ↦ λ h. item-made steps book f i h | Err c ↦ λ h. inr (record { cause = c; no′ = inl h; is = ap (λ q. located (f .at) (andThen q (put steps book))) h }) ] in
     go (f .said) refl
 
 -- ---- all fields
@@ -106,17 +106,17 @@ first-no steps before book (f ∷ fs) e p h =
     elim (field-made steps book f) [
       | inl P ↦ subst (λ l. FirstNo steps l e) (push-cons before f fs) (first-no steps (before ++ f ∷ []) (after steps book (P .says)) fs e (passed-more steps [] book before f p P) (sym (ap (λ q. andThen q (λ b. replay steps b fs)) (P .is)) ∙ h))
       | inr F ↦
-        let d : record { cause = F .cause; offset = f .at } ≡ e = err-same (sym (ap (λ q. andThen q (λ b. replay steps b fs)) (F .is)) ∙ h) in
-        record {
-          before = before;
-          decides = f;
-          behind = fs;
-          split = refl;
-          book = book;
-          passed = p;
-          no′ = subst (No steps book f) (ap (λ (x : RecordFault). x .cause) d) (F .no′);
-          place = sym (ap (λ (x : RecordFault). x .offset) d);
-        }
+          let d : record { cause = F .cause; offset = f .at } ≡ e = err-same (sym (ap (λ q. andThen q (λ b. replay steps b fs)) (F .is)) ∙ h) in
+          record {
+            before = before;
+            decides = f;
+            behind = fs;
+            split = refl;
+            book = book;
+            passed = p;
+            no′ = subst (No steps book f) (ap (λ (x : RecordFault). x .cause) d) (F .no′);
+            place = sym (ap (λ (x : RecordFault). x .offset) d);
+          }
     ]
 
 -- where all got a yes, the book is that of the calls
@@ -195,8 +195,8 @@ cut-bytes (t ∷ hi ∷ lo ∷ bs) c e h =
     let y : Cut = record { tag = t; body = take n bs; rest = drop n bs } in
     let all : Bytes bs = bytes-drop 3 (t ∷ hi ∷ lo ∷ bs) h in
     let go : (b : Bool) → cond b (Err Short) (Ok y) ≡ Ok c → Bytes (c .body) × Bytes (c .rest) =
-        λ b. elim b as (λ b. cond b (Err Short) (Ok y) ≡ Ok c → Bytes (c .body) × Bytes (c .rest))
-          [ true ↦ λ q. absurd (let z : _≡_ {A = ℕ} 0 1 = cc in omega arith) | false ↦ λ q. let p : y ≡ c = cc in subst (λ z. Bytes (z .body) × Bytes (z .rest)) p (bytes-take n bs all, bytes-drop n bs all) ] in
+    λ b. elim b as (λ b. cond b (Err Short) (Ok y) ≡ Ok c → Bytes (c .body) × Bytes (c .rest))
+    [ true ↦ λ q. absurd (let z : _≡_ {A = ℕ} 0 1 = cc in omega arith) | false ↦ λ q. let p : y ≡ c = cc in subst (λ z. Bytes (z .body) × Bytes (z .rest)) p (bytes-take n bs all, bytes-drop n bs all) ] in
     go (ltb (length bs) n) e
 
 read-fits : (s : State) (bytes : List ℕ) (r : Read) → fieldAt s bytes ≡ Ok r → Bytes bytes → Fits (Ok (r .item)) × Bytes (r .rest)
@@ -211,8 +211,8 @@ fields-fit zero s total bytes h = tt
 fields-fit (suc n) s total [] h = tt
 fields-fit (suc n) s total (b ∷ bs) h =
     let go : (q : Result Read Cause) → fieldAt s (b ∷ bs) ≡ q → All (λ f. Fits (f .said)) (record { at = total - length (b ∷ bs); said = saying q } ∷ following q (λ f. fields n (f .state) total (f .rest))) =
-        λ q. elim q as (λ q. fieldAt s (b ∷ bs) ≡ q → All (λ f. Fits (f .said)) (record { at = total - length (b ∷ bs); said = saying q } ∷ following q (λ f. fields n (f .state) total (f .rest))))
-          [ Ok r ↦ λ e. let p = read-fits s (b ∷ bs) r e h in (p .0, fields-fit n (r .state) total (r .rest) (p .1)) | Err c ↦ λ e. (tt, tt) ] in
+    λ q. elim q as (λ q. fieldAt s (b ∷ bs) ≡ q → All (λ f. Fits (f .said)) (record { at = total - length (b ∷ bs); said = saying q } ∷ following q (λ f. fields n (f .state) total (f .rest))))
+    [ Ok r ↦ λ e. let p = read-fits s (b ∷ bs) r e h in (p .0, fields-fit n (r .state) total (r .rest) (p .1)) | Err c ↦ λ e. (tt, tt) ] in
     go (fieldAt s (b ∷ bs)) refl
 
 written-fit : (steps : ℕ → Steps) (book : List Entry) (call : Call) → CallFits call → All Fit book → All Fit (written steps book call)
@@ -257,12 +257,12 @@ stands bytes book h e =
     let words : All Fit (standingAfter (stepsOf bytes) calls) = standing-fit (stepsOf bytes) (fieldsOf bytes) (fields-fit (length bytes) state.Edition (length bytes) bytes h) [] tt in
     let rs : List Row = map (filled (answerOf bytes)) (standingAfter (stepsOf bytes) calls) in
     let same : (b : List Entry) → standingAfter (stepsOf bytes) calls ≡ b → Stands bytes (tallyOf (editionOf (fieldsOf bytes)) (answerOf bytes) b) =
-        λ b q. subst (λ z. Stands bytes (tallyOf (editionOf (fieldsOf bytes)) (answerOf bytes) z)) q
-          (record {
-            edition = refl;
-            rows = refl;
-            totals = holds (stepsOf bytes) (answerOf bytes) (λ w _. under-keeps (mountOf (fieldsOf bytes)) (editionOf (fieldsOf bytes)) w) calls rs (record { speed = speedOf rs; along = alongOf rs; across = acrossOf rs }) (record { order = Permᴰ·refl rs; words = words }) refl refl refl;
-          }) in
+    λ b q. subst (λ z. Stands bytes (tallyOf (editionOf (fieldsOf bytes)) (answerOf bytes) z)) q
+    (record {
+      edition = refl;
+      rows = refl;
+      totals = holds (stepsOf bytes) (answerOf bytes) (λ w _. under-keeps (mountOf (fieldsOf bytes)) (editionOf (fieldsOf bytes)) w) calls rs (record { speed = speedOf rs; along = alongOf rs; across = acrossOf rs }) (record { order = Permᴰ·refl rs; words = words }) refl refl refl;
+    }) in
     same book is
 
 record-means : (room : ℕ) (bytes : List ℕ) → 96 ≤ room → length bytes ≤ 65536 → Bytes bytes → Means room bytes (recordTally bytes)
@@ -271,17 +271,17 @@ record-means room [] r l h = inr (inr (r, l, inl (refl, refl)))
 record-means room (b ∷ bs) r l h =
     let bytes : List ℕ = b ∷ bs in
     let go : (q : Result (List Entry) RecordFault) → replay (stepsOf bytes) [] (fieldsOf bytes) ≡ q → Means room bytes (andThen q (λ book. Ok (tallyOf (editionOf (fieldsOf bytes)) (answerOf bytes) book))) =
-        λ q. elim q as (λ q. replay (stepsOf bytes) [] (fieldsOf bytes) ≡ q → Means room bytes (andThen q (λ book. Ok (tallyOf (editionOf (fieldsOf bytes)) (answerOf bytes) book))))
-          [ Ok book ↦ λ e. (r, l, stands bytes book h e) | Err f ↦ λ e. inr (inr (r, l, inr (first-no (stepsOf bytes) [] [] (fieldsOf bytes) f refl e))) ] in
+    λ q. elim q as (λ q. replay (stepsOf bytes) [] (fieldsOf bytes) ≡ q → Means room bytes (andThen q (λ book. Ok (tallyOf (editionOf (fieldsOf bytes)) (answerOf bytes) book))))
+    [ Ok book ↦ λ e. (r, l, stands bytes book h e) | Err f ↦ λ e. inr (inr (r, l, inr (first-no (stepsOf bytes) [] [] (fieldsOf bytes) f refl e))) ] in
     go (replay (stepsOf bytes) [] (fieldsOf bytes)) refl
 
 pub outcome-means : (room : ℕ) (bytes : List ℕ) → ((i : ℕ) → getD bytes i 0 < 256) → Means room bytes (outcomeOf room bytes)
 unfolding Bytes
 outcome-means room bytes h =
     let long : (t : Bool) → ltb 65536 (length bytes) ≡ t → 96 ≤ room → Means room bytes (cond t (Err (record { cause = TooLong; offset = 0 })) (recordTally bytes)) =
-        λ t. elim t as (λ t. ltb 65536 (length bytes) ≡ t → 96 ≤ room → Means room bytes (cond t (Err (record { cause = TooLong; offset = 0 })) (recordTally bytes)))
-          [ true ↦ λ e r. inr (inl (r, ltb-true 65536 (length bytes) e, refl)) | false ↦ λ e r. record-means room bytes r (ltb-false 65536 (length bytes) e) h ] in
+    λ t. elim t as (λ t. ltb 65536 (length bytes) ≡ t → 96 ≤ room → Means room bytes (cond t (Err (record { cause = TooLong; offset = 0 })) (recordTally bytes)))
+    [ true ↦ λ e r. inr (inl (r, ltb-true 65536 (length bytes) e, refl)) | false ↦ λ e r. record-means room bytes r (ltb-false 65536 (length bytes) e) h ] in
     let small : (t : Bool) → ltb room 96 ≡ t → Means room bytes (cond t (Err (record { cause = Buffer; offset = 0 })) (cond (ltb 65536 (length bytes)) (Err (record { cause = TooLong; offset = 0 })) (recordTally bytes))) =
-        λ t. elim t as (λ t. ltb room 96 ≡ t → Means room bytes (cond t (Err (record { cause = Buffer; offset = 0 })) (cond (ltb 65536 (length bytes)) (Err (record { cause = TooLong; offset = 0 })) (recordTally bytes))))
-          [ true ↦ λ e. inl (ltb-true room 96 e, refl) | false ↦ λ e. long (ltb 65536 (length bytes)) refl (ltb-false room 96 e) ] in
+    λ t. elim t as (λ t. ltb room 96 ≡ t → Means room bytes (cond t (Err (record { cause = Buffer; offset = 0 })) (cond (ltb 65536 (length bytes)) (Err (record { cause = TooLong; offset = 0 })) (recordTally bytes))))
+    [ true ↦ λ e. inl (ltb-true room 96 e, refl) | false ↦ λ e. long (ltb 65536 (length bytes)) refl (ltb-false room 96 e) ] in
     small (ltb room 96) refl

@@ -1,31 +1,14 @@
-use mathlib.Core.Path.{_≡_, ap, sym, _∙_}
-use native.Mathlib.Omega.{arith}
-use lib.Ieee.{nanBits, binary32, ofBits, ofFields}
-use Rattle.reducers.specs.Reduce.{reduce}
-use Rattle.formulas.specs.Words.{fmla, narrowed, minusTiny, one, cosineAt}
-use Rattle.formulas.specs.Radians.{cosNear, cosOf}
-use Rattle.formulas.proofs.Ways.{cosf-line, cosf-near, cosf-nan, cosf-far}
+use mathlib.Core.Path.{sym, subst}
+use borrow.Author.Needs.{needs}
+use Rattle.circle.specs.Circle.{exactCosine}
+use Rattle.formulas.specs.Distance.{Near}
+use Rattle.formulas.specs.Radians.{cosf}
+use Rattle.formulas.proofs.Floats.{near-float}
+use Rattle.formulas.proofs.Radians.{radian-cosine}
+use Rattle.reducers.specs.Exact.{radianSteps}
 use Rattle.functions.proofs.cosf.f_cosf.Needs as need
-
-pub float-from-bits-f-fmla : need.float-from-bits-f-fmla
-unfolding nanBits
-float-from-bits-f-fmla c = tt
-
-pub returns-then-x-abs-lt964689920 : need.returns-then-x-abs-lt964689920
-returns-then-x-abs-lt964689920 c =
-    c .narrow .ensures ∙ ap narrowed (c .f-fmla .ensures ∙ ap (λ z. fmla z minusTiny one) (c .f32-to-f64-with-nan-xd .ensures ∙ c .f32-from-bits-with-nan .ensures))
-    ∙ sym (cosf-line (c .size-bits-x-abs .result) (omega arith)) ∙ ap cosOf (c .size-bits-x-abs .ensures)
-
-pub returns-then-x-abs-le1044975579 : need.returns-then-x-abs-le1044975579
-returns-then-x-abs-le1044975579 c =
-    c .narrow-then-x-abs-le1044975579 .ensures ∙ ap narrowed (c .cos-near .ensures ∙ ap cosNear (c .f32-to-f64-with-nan-xd .ensures ∙ c .f32-from-bits-with-nan .ensures))
-    ∙ sym (cosf-near (c .size-bits-x-abs .result) (omega arith) (omega arith)) ∙ ap cosOf (c .size-bits-x-abs .ensures)
-
-pub returns-then-x-abs-ge-INFINITE : need.returns-then-x-abs-ge-INFINITE
-unfolding ofBits ofFields
-returns-then-x-abs-ge-INFINITE c = sym (cosf-nan (c .size-bits-x-abs .result) (omega arith)) ∙ ap cosOf (c .size-bits-x-abs .ensures)
 
 pub returns : need.returns
 returns c =
-    c .narrow-2 .ensures ∙ ap narrowed (c .cos-by-table .ensures ∙ ap (λ z. cosineAt (reduce z (c .size-bits-x-abs .result))) (c .f32-to-f64-with-nan-xd .ensures ∙ c .f32-from-bits-with-nan .ensures))
-    ∙ sym (cosf-far (c .size-bits-x-abs .result) (omega arith) (omega arith)) ∙ ap cosOf (c .size-bits-x-abs .ensures)
+    let e = c .cosf-gen-impl .ensures in
+    record { is = e; near = subst (λ r. Near (c .args .x) r (exactCosine (radianSteps (c .args .x)))) (sym e) (near-float cosf radianSteps exactCosine radian-cosine (c .args .x) (search needs)) }

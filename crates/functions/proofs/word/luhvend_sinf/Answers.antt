@@ -4,4 +4,4 @@ use Rattle.formulas.specs.Radians.{sinf}
 use Rattle.functions.proofs.word.luhvend_sinf.Needs as need
 
 pub returns : need.returns
-returns c = c .f32-to-bits-with-nan .ensures ∙ ap (toBits binary32) (c .f-sinf .ensures ∙ ap sinf (c .f32-from-bits-with-nan .ensures))
+returns c = c .f32-to-bits-with-nan .ensures ∙ ap (toBits binary32) (c .f-sinf .ensures .is ∙ ap sinf (c .f32-from-bits-with-nan .ensures))

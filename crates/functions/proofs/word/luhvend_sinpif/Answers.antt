@@ -4,4 +4,4 @@ use Rattle.formulas.specs.HalfTurns.{sinpif}
 use Rattle.functions.proofs.word.luhvend_sinpif.Needs as need
 
 pub returns : need.returns
-returns c = c .f32-to-bits-with-nan .ensures ∙ ap (toBits binary32) (c .f-sinpif .ensures ∙ ap sinpif (c .f32-from-bits-with-nan .ensures))
+returns c = c .f32-to-bits-with-nan .ensures ∙ ap (toBits binary32) (c .f-sinpif .ensures .is ∙ ap sinpif (c .f32-from-bits-with-nan .ensures))
