@@ -119,7 +119,7 @@ impl Opened<'_> {
 }
 
 // The mount that a field says, if it says one.
-fn mount_in(item: Item) -> Option<Mount>
+pub fn mount_in(item: Item) -> Option<Mount>
     ensures { λ r. ⌜ r ≡ saidMount (Ok item) ⌝ }
 {
     match item {
