@@ -16,6 +16,7 @@ use Rattle.exact.specs.Fraction.{Fraction, _≈_, _⊕_, _⊗_, _⊖_, whole, 
 use Rattle.exact.specs.Value.{valueOf, integer, signed}
 use Rattle.exact.specs.Multiple.{dif, pw, Multiple}
 use Rattle.exact.specs.Rounded.{Rounded}
+pub use Rattle.exact.specs.Laws.{Away}
 use Rattle.exact.proofs.Order.{≡-≈, size-≈, ≈-sym, ≈-refl, ≈-trans, ⊕-cong, ⊗-cong, ⊗-one, neg-cong, within-≈, within→size, size-⊑, within-sym}
 use Rattle.exact.proofs.Closest.{split-pow}
 use Rattle.exact.proofs.Rounding.{signed-value, sized, rounded-exact, sub-rounded}
@@ -152,14 +153,6 @@ rest s m h d ok g = go s (leb (h * d) m) (leb→le (h * d) m) (nleb→lt (h * d)
 
 pub pow-le-back : (a b : ℕ) → 2 ^ a ≤ 2 ^ b → a ≤ b
 pow-le-back a b h = le-of-suc-le-suc (lt-of-not-le (λ (g : suc b ≤ a). not-le-of-lt (pow-lt g) h))
-
-pub record Away (f : Format) (r x : Float) : Type 0 where
-  pub fin : T (finite r)
-  pub integral : Multiple (valueOf r) (whole 1)
-  pub near : Within (valueOf r) (valueOf x) (frac 1 2)
-  pub exact : Same (sub f x r) (valueOf x ⊖ valueOf r)
-  -- the difference is no larger than x
-  pub less : (B : Fraction) → Size (valueOf x) B → Size (valueOf x ⊖ valueOf r) B
 
 -- ±q / d for a q up to m
 shrink-core : (q m d bp bm bd : ℕ) → q * bd ≤ m * bd → m * bd + bm * d ≤ bp * d → q * bd + bm * d ≤ bp * d

@@ -1,9 +1,9 @@
 -- The fused product and sum, and quotients.
-use Prim.Native.Nat.{ℕ, _+_, _*_, _/_, _<_}
-use native.Mathlib.Nat.{mul-pos}
+use Prim.Native.Nat.{ℕ, zero, suc, _+_, _*_, _/_, _<_}
+use native.Mathlib.Nat.{mul-pos, zero-lt-suc}
 use native.Mathlib.Omega.{arith}
 use mathlib.Core.Bool.{Bool, true, false}
-use lib.Dec.{T, ltb→lt}
+use lib.Dec.{T, ltb→lt, lt→ltb}
 use lib.Ieee.{Float, Format, nan, inf, fin, up, down, unlike, sum, div}
 use lib.Ieee.Fits.{up-pos, down-pos}
 use lib.Ieee.Scale.{finite}
@@ -11,6 +11,7 @@ use Rattle.std.specs.Floats.{fused}
 use Rattle.exact.specs.Fraction.{Fraction, _≈_, _⊕_, _⊗_, whole}
 use Rattle.exact.specs.Rounded.{Rounded}
 use Rattle.exact.specs.Value.{valueOf, signed}
+use Rattle.exact.specs.Laws.{Division-rounds, Quotient, Quotients}
 use Rattle.exact.proofs.Order.{≈-refl, ≈-trans, ⊗-cong, ⊗-assoc, ⊗-one}
 use Rattle.exact.proofs.Rounding.{sum-rounded, div-rounded, nonzero}
 
@@ -54,3 +55,19 @@ inverse-is (fin false m e) p = record { eq = omega arith }
 
 pub quotient-rounded : (f : Format) (x y : Float) → T (finite x) → (q : T (nonzero y)) → Rounded f (div f x y) (valueOf x ⊗ inverse y q)
 quotient-rounded f x y p q = div-rounded f x y (valueOf x ⊗ inverse y q) p q (≈-trans (⊗-assoc (valueOf x) (inverse y q) (valueOf y)) (≈-trans (⊗-cong (≈-refl (valueOf x)) (inverse-is y q)) (⊗-one (valueOf x))))
+
+-- ---- a divisor that is not zero
+not-zero : (y : Float) → T (finite y) → (valueOf y ≈ whole 0 → ⊥) → T (nonzero y)
+not-zero nan p h = absurd p
+not-zero (inf s) p h = absurd p
+not-zero (fin false zero e) p h = absurd (h (record { eq = omega arith }))
+not-zero (fin true zero e) p h = absurd (h (record { eq = omega arith }))
+not-zero (fin s (suc m) e) p h = lt→ltb 0 (suc m) (zero-lt-suc m)
+
+pub division-rounds : Division-rounds
+division-rounds f x y v p q h e = div-rounded f x y v p (not-zero y q h) e
+
+pub quotients : Quotients
+quotients x y q h =
+    let n = not-zero y q h in
+    record { v = valueOf x ⊗ inverse y n; is = ≈-trans (⊗-assoc (valueOf x) (inverse y n) (valueOf y)) (≈-trans (⊗-cong (≈-refl (valueOf x)) (inverse-is y n)) (⊗-one (valueOf x))) }

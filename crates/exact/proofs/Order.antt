@@ -66,6 +66,9 @@ not-⊑ {a} {b} h = elim (decLe (b .plus * a .den + a .minus * b .den) (a .plus 
 pub ⊑-dec : (a b : Fraction) → Dec (a ⊑ b)
 ⊑-dec a b = elim (decLe (a .plus * b .den + b .minus * a .den) (b .plus * a .den + a .minus * b .den)) [ yes h ↦ yes (record { le = h }) | no h ↦ no (λ k. h (k .le)) ]
 
+pub ⊑-total : (a b : Fraction) → (a ⊑ b) ⊎ (b ⊑ a)
+⊑-total a b = elim (⊑-dec a b) [ yes h ↦ inl h | no h ↦ inr (not-⊑ h) ]
+
 pub whole-⊑ : {m n : ℕ} → m ≤ n → whole m ⊑ whole n
 whole-⊑ h = record { le = omega arith }
 

@@ -4,3 +4,4 @@ pub mod Rounded
 pub mod Multiple
 pub mod Straight
 pub mod Laws
+pub mod Distances

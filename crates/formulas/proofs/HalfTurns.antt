@@ -46,13 +46,13 @@ few-steps : (y : Fraction) → Size y (frac 1 16) → Size (whole 32 ⊗ y) (who
 unfolding leq
 few-steps y h = size-⊑ (by-test {a = whole 32 ⊗ frac 1 16} {b = whole 7} tt) (size-⊗ thirty-two h)
 
-sine-of : (y : Fraction) → Size y (frac 1 16) → sinSeries (halfTurns y) ≈ exactSine (whole 32 ⊗ y)
+pub sine-of : (y : Fraction) → Size y (frac 1 16) → sinSeries (halfTurns y) ≈ exactSine (whole 32 ⊗ y)
 sine-of y h = ≈-sym (≈-trans (sine-near-zero (whole 32 ⊗ y) (few-steps y h)) (sin-cong (half-angle y)))
 
-cosine-of : (y : Fraction) → Size y (frac 1 16) → cosSeries (halfTurns y) ≈ exactCosine (whole 32 ⊗ y)
+pub cosine-of : (y : Fraction) → Size y (frac 1 16) → cosSeries (halfTurns y) ≈ exactCosine (whole 32 ⊗ y)
 cosine-of y h = ≈-sym (≈-trans (cosine-near-zero (whole 32 ⊗ y) (few-steps y h)) (cos-cong (half-angle y)))
 
-narrow-angle : (y : Fraction) → Size y (frac 1 16) → Size (halfTurns y) (frac 4 5)
+pub narrow-angle : (y : Fraction) → Size y (frac 1 16) → Size (halfTurns y) (frac 4 5)
 unfolding leq
 narrow-angle y h = size-≈ (half-angle y) (angle (whole 32 ⊗ y) (size-⊑ (by-test {a = whole 7} {b = whole 8} tt) (few-steps y h)))
 

@@ -12,3 +12,11 @@ pub mod Wholes
 pub mod HalfTurns
 pub mod Special
 pub mod Floats
+pub mod TangentNarrowed
+pub mod TangentNear
+pub mod TangentFar
+pub mod TangentQuarter
+pub mod TangentRadians
+pub mod TangentHalves
+pub mod TangentHalfTurns
+pub mod TangentSpecial

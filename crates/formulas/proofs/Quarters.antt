@@ -77,7 +77,7 @@ unfolding ofBits ofFields odd trailingZeros
 zero-finite = tt
 
 -- equal to zero is zero
-is-zero : (y : Float) → T (finite y) → T (eq y zero64) → valueOf y ≈ whole 0
+pub is-zero : (y : Float) → T (finite y) → T (eq y zero64) → valueOf y ≈ whole 0
 unfolding eq ofBits ofFields odd trailingZeros
 is-zero nan p t = absurd p
 is-zero (inf s) p t = absurd p

@@ -34,10 +34,10 @@ few-steps : (x : Float) → Size (valueOf x) (frac 1 5) → Size (radianSteps x)
 unfolding leq
 few-steps x h = size-⊑ (by-test {a = frac 1 5 ⊗ whole 11} {b = whole 7} tt) (size-⊗ h per-radian)
 
-sine-of : (x : Float) → Size (valueOf x) (frac 1 5) → sinSeries (valueOf x) ≈ exactSine (radianSteps x)
+pub sine-of : (x : Float) → Size (valueOf x) (frac 1 5) → sinSeries (valueOf x) ≈ exactSine (radianSteps x)
 sine-of x h = ≈-sym (≈-trans (sine-near-zero (radianSteps x) (few-steps x h)) (sin-cong (radian-angle x)))
 
-cosine-of : (x : Float) → Size (valueOf x) (frac 1 5) → cosSeries (valueOf x) ≈ exactCosine (radianSteps x)
+pub cosine-of : (x : Float) → Size (valueOf x) (frac 1 5) → cosSeries (valueOf x) ≈ exactCosine (radianSteps x)
 cosine-of x h = ≈-sym (≈-trans (cosine-near-zero (radianSteps x) (few-steps x h)) (cos-cong (radian-angle x)))
 
 wider : {v : Fraction} → Size v (frac 1 5) → Size v (frac 4 5)
@@ -59,7 +59,7 @@ thirty : inUnits (unitsIn 115 6854504) ⊑ frac 30 65536
 unfolding leq unitsIn
 thirty = by-test tt
 
-twelve : inUnits (unitsIn 114 8388607) ⊑ belowTwelve
+pub twelve : inUnits (unitsIn 114 8388607) ⊑ belowTwelve
 unfolding leq unitsIn
 twelve = by-test tt
 

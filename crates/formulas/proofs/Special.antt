@@ -20,7 +20,7 @@ special-fields s t = go s (eqb t 0)
     go false true = lit≤ tt
     go s false = lit≤ tt
 
-special-word : (w : ℕ) → field w ≡ 255 → infinite ≤ sizeBits (ofBits binary32 w)
+pub special-word : (w : ℕ) → field w ≡ 255 → infinite ≤ sizeBits (ofBits binary32 w)
 special-word w e = subst (λ x. infinite ≤ sizeBits x) (sym (pattern-is binary32 w (sign binary32 w) 255 (w % 8388608) refl e refl)) (special-fields (sign binary32 w) (w % 8388608))
 
 pub not-finite : Not-finite

@@ -61,12 +61,16 @@ meant-is x b H (narrow f s) = meant-is x b H s
 abbrev pub sound : (x : Float) (b : Fraction) → Held x b → Exp → Fraction → Bool
 sound x b H t e = scan (only x b H) t .fine && leq (scan (only x b H) t .error) e
 
--- e for the rounding and d for the rest, f for both
-pub against : (x : Float) (b : Fraction) (H : Held x b) (t : Exp) (g : Expr) (v e d f : Fraction) → T (sound x b H t e) → Size (val (one (valueOf x) b) (meant t :- g)) d → val (one (valueOf x) b) g ≈ v → T (leq (e ⊕ d) f) → Good (run (only x b H) t) v f
-against x b H t g v e d f k s q l =
+-- e for the rounding, d for the rest
+pub apart : (x : Float) (b : Fraction) (H : Held x b) (t : Exp) (g : Expr) (v e d : Fraction) → T (sound x b H t e) → Size (val (one (valueOf x) b) (meant t :- g)) d → val (one (valueOf x) b) g ≈ v → Good (run (only x b H) t) v (e ⊕ d)
+apart x b H t g v e d k s q =
     let r = close (only x b H) t e (and-l (scan (only x b H) t .fine) (leq (scan (only x b H) t .error) e) k) (and-r (scan (only x b H) t .fine) (leq (scan (only x b H) t .error) e) k) in
     let m = subst (λ z. Within (valueOf (run (only x b H) t)) z e) (meant-is x b H t) (r .near) in
-    record { fin = r .fin; near = within-⊑ (by-test l) (triangle m (within-≈ (≈-refl (val (one (valueOf x) b) (meant t))) q (size→within s))) }
+    record { fin = r .fin; near = triangle m (within-≈ (≈-refl (val (one (valueOf x) b) (meant t))) q (size→within s)) }
+
+-- and f for both
+pub against : (x : Float) (b : Fraction) (H : Held x b) (t : Exp) (g : Expr) (v e d f : Fraction) → T (sound x b H t e) → Size (val (one (valueOf x) b) (meant t :- g)) d → val (one (valueOf x) b) g ≈ v → T (leq (e ⊕ d) f) → Good (run (only x b H) t) v f
+against x b H t g v e d f k s q l = let r = apart x b H t g v e d k s q in record { fin = r .fin; near = within-⊑ (by-test l) (r .near) }
 
 -- by the coefficients as they stand
 pub plainly : (x : Float) (b : Fraction) → Held x b → (e : Expr) (d : Fraction) → T (small (one (valueOf x) b) d e) → Size (val (one (valueOf x) b) e) d

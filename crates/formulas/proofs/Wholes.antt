@@ -146,7 +146,7 @@ cosine-wholly X M =
     triangle (triangle (cosine-at b (omega arith)) (within-sym (cosine-quarters (2 * b) (whole 0) no-size))) (alike-cosine (quartersOn (2 * b) (whole 0)) (whole 32 ⊗ X) (whole 0) (wholes-alike X M))
 
 -- ---- the answers
-zero-is : (t : Bool) → T (finite (withSign t (ofBits binary32 0))) × (valueOf (withSign t (ofBits binary32 0)) ≈ whole 0)
+pub zero-is : (t : Bool) → T (finite (withSign t (ofBits binary32 0))) × (valueOf (withSign t (ofBits binary32 0)) ≈ whole 0)
 unfolding withSign ofBits ofFields odd trailingZeros
 zero-is true = (tt, record { eq = refl })
 zero-is false = (tt, record { eq = refl })

@@ -3,3 +3,4 @@ pub mod Radians
 pub mod HalfTurns
 pub mod Tried
 pub mod Distance
+pub mod Tangent

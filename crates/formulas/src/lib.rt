@@ -2,6 +2,7 @@
 ghost use mathlib.Core.Path.{_≡_};
 ghost use Rattle.formulas.specs.Tried.{Tried};
 ghost use Rattle.formulas.specs.Distance.{Radian-sine, Radian-cosine, Half-turn-sine, Half-turn-cosine, Not-finite};
+ghost use Rattle.formulas.specs.Tangent.{Radian-tangent, Half-turn-tangent, Tangents-not-finite};
 
 // How many values stand in the table of tried ones.
 pub fn tried_values() -> u8
@@ -18,6 +19,16 @@ pub fn sine_distances() -> u8
     ensures half_turn_sine { λ _. ⌜ Half-turn-sine ⌝ }
     ensures half_turn_cosine { λ _. ⌜ Half-turn-cosine ⌝ }
     ensures not_finite { λ _. ⌜ Not-finite ⌝ }
+{
+    0
+}
+
+// The tangents, at every word: times the exact cosine within 2^-23 and a 2^-35 part of the answer of the exact sine;
+// infinite at halves of half turns alone.
+pub fn tangent_distances() -> u8
+    ensures radian { λ _. ⌜ Radian-tangent ⌝ }
+    ensures half_turn { λ _. ⌜ Half-turn-tangent ⌝ }
+    ensures not_finite { λ _. ⌜ Tangents-not-finite ⌝ }
 {
     0
 }

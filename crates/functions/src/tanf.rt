@@ -1,7 +1,9 @@
 ghost use mathlib.Core.Path.{_≡_};
 ghost use Rattle.reducers.specs.Reduce.{reduce as reduced};
 ghost use Rattle.formulas.specs.Words.{tangentAt};
+ghost use Rattle.reducers.specs.Exact.{radianSteps};
 ghost use Rattle.formulas.specs.Radians.{tanNear, tanf};
+ghost use Rattle.formulas.specs.Tangent.{Near-tangent};
 use crate::word::INFINITE;
 use crate::word::size_bits;
 use forms::F64Form;
@@ -38,8 +40,8 @@ fn tan_by_table(x: f64, x_abs: u32) -> f64
     tangent(tanf_eval(y, step_of(k)))
 }
 
-// The tangent of x radians.
-pub fn f_tanf(x: f32) -> f32
+// The plain path.
+fn tanf_gen_impl(x: f32) -> f32
     ensures { λ r. ⌜ r ≡ tanf x ⌝ }
 {
     let x_abs = size_bits(x);
@@ -61,4 +63,12 @@ pub fn f_tanf(x: f32) -> f32
         return f32::NAN;
     }
     narrow(tan_by_table(xd, x_abs))
+}
+
+// The tangent of x radians: never infinite, and times the exact cosine near the exact sine.
+pub fn f_tanf(x: f32) -> f32
+    ensures is { λ r. ⌜ r ≡ tanf x ⌝ }
+    ensures near { λ r. ⌜ Near-tangent x r (radianSteps x) ⌝ }
+{
+    tanf_gen_impl(x)
 }

@@ -1,5 +1,6 @@
 ghost use mathlib.Core.Path.{_≡_};
 ghost use Rattle.formulas.specs.HalfTurns.{tanpiBy, tanpiAt, tanpif};
+ghost use Rattle.formulas.specs.Tangent.{Half-or-near};
 ghost use Prim.Native.Nat.{_<_};
 use crate::word::INFINITE;
 use crate::word::size_bits;
@@ -50,8 +51,8 @@ fn tanpi_at(x: f32, y: f64, k: u8) -> f32
     }
 }
 
-// The tangent of x half turns, tan(pi*x).
-pub fn f_tanpif(x: f32) -> f32
+// The plain path.
+fn tanpif_gen_impl(x: f32) -> f32
     ensures { λ r. ⌜ r ≡ tanpif x ⌝ }
 {
     let x_abs = size_bits(x);
@@ -67,4 +68,12 @@ pub fn f_tanpif(x: f32) -> f32
     };
     let (y, k) = reducer.reduce();
     tanpi_at(x, y, step_of(k))
+}
+
+// The tangent of x half turns: infinite at whole numbers and a half alone, and times the exact cosine near the exact sine.
+pub fn f_tanpif(x: f32) -> f32
+    ensures is { λ r. ⌜ r ≡ tanpif x ⌝ }
+    ensures near { λ r. ⌜ Half-or-near x r ⌝ }
+{
+    tanpif_gen_impl(x)
 }

@@ -9,3 +9,4 @@ pub mod HalfTurns
 pub mod Tried
 pub mod Turns
 pub mod Reading
+pub mod Skips

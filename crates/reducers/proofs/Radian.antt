@@ -308,14 +308,14 @@ unfolding allBelow
 below-at zero P t k h = absurd (not-suc-le-zero h)
 below-at (suc n) P t k h = elim (eq-or-lt-of-le (le-of-suc-le-suc h)) [ inl e ↦ subst (λ j. T (P j)) (sym e) (and-l (P n) (allBelow n P) t) | inr l ↦ below-at n P (and-r (P n) (allBelow n P) t) k l ]
 
-which : ℕ → ℕ
+unfoldable pub which : ℕ → ℕ
 which x = cond (leb x 179) 0 (cond (leb x 210) 1 (cond (leb x 236) 2 3))
 
 skipTest : ℕ → Bool
 unfolding which
 skipTest x = eqb (skips leading (pos x -ℤ pos 127)) (which x)
 
-skips-is : (x : ℕ) → x < 255 → skips leading (pos x -ℤ pos 127) ≡ which x
+pub skips-is : (x : ℕ) → x < 255 → skips leading (pos x -ℤ pos 127) ≡ which x
 unfolding skipTest allBelow
 skips-is x h = eqb→eq (skips leading (pos x -ℤ pos 127)) (which x) (below-at 255 skipTest tt x h)
 

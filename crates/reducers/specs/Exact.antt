@@ -3,13 +3,15 @@ use Prim.Native.Nat.{ℕ, zero, suc, _-_, _/_, _%_, _^_, _<_}
 use mathlib.Core.Path.{_≡_}
 use lib.Dec.{T}
 use lib.IntN.{ℤ, pos, negsuc, natAbs}
-use lib.Ieee.{Float, binary32, ofBits}
+use lib.Ieee.{Float, binary32, ofBits, minus}
 use lib.Ieee.Scale.{finite}
+use lib.ListN.{getD}
 use Rattle.exact.specs.Fraction.{Fraction, _≈_, _⊕_, _⊗_, _⊖_, whole, frac, tiny, Size, Within}
 use Rattle.exact.specs.Value.{valueOf, integer}
-use Rattle.exact.specs.Multiple.{Smaller, Apart}
+use Rattle.exact.specs.Multiple.{Multiple, OddMultiple, Smaller, Apart}
+use Rattle.exact.specs.Rounded.{two}
 use Rattle.circle.specs.Circle.{bigPi}
-use Rattle.reducers.specs.Reduce.{part}
+use Rattle.reducers.specs.Reduce.{part, lowest, leading, skips, exponentOf}
 
 -- how many steps a radian is, 64 steps to a turn
 abbrev pub stepsPerRadian : Fraction
@@ -31,6 +33,20 @@ PartsAreRight = Within (sumParts 8 ⊗ frac bigPi (2 ^ 256)) (whole 32) (tiny 23
 -- the exponent's field of a 32-bit word
 abbrev pub field : ℕ → ℕ
 field w = w % 2147483648 / 8388608
+
+-- each of the first seven parts is an odd number times its lowest bit
+abbrev pub Lowest-bits : Type 0
+Lowest-bits = (i : ℕ) → i < 7 → OddMultiple (valueOf (part i)) (two (getD lowest i (pos 0)))
+
+-- a finite float is a multiple of its lowest bit: 2 ^ (e - 23) for the exponent e, and 2 ^ -149 for a field of 0
+abbrev pub Lowest-digits : Type 0
+Lowest-digits = (w : ℕ) → (field w ≡ 255 → ⊥) → Multiple (valueOf (ofBits binary32 w)) (two (minus (field w - 1) 149))
+
+-- the product of a finite float and a part that is skipped for its exponent is a number of whole turns
+abbrev pub Skipped-are-whole-turns : Type 0
+Skipped-are-whole-turns =
+    (w i : ℕ) → (field w ≡ 255 → ⊥) → i < skips leading (exponentOf (w % 2147483648)) →
+    Multiple (valueOf (ofBits binary32 w) ⊗ valueOf (part i)) (whole 64)
 
 -- k modulo 64
 abbrev pub modTurn : ℤ → ℕ

@@ -3,7 +3,7 @@ ghost use Prim.Native.Nat.{ℕ, _<_, _≤_, _%_};
 ghost use lib.Ieee.{ofBits, binary32};
 ghost use lib.IntN.{pos};
 ghost use lib.ListN.{getD};
-ghost use Rattle.reducers.specs.Exact.{field, modTurn, Reduced, PartsAreRight};
+ghost use Rattle.reducers.specs.Exact.{field, modTurn, Reduced, PartsAreRight, Lowest-bits, Lowest-digits, Skipped-are-whole-turns};
 ghost use Rattle.reducers.specs.Reduce.{reduceSmall, reduceLarge, skips, lowest, leading, wholeTurns, part, exponentOf};
 ghost use Rattle.reducers.specs.Reduce.{reduce as reduced};
 use rounding::f_fmla;
@@ -66,6 +66,15 @@ fn skipped(exponent: i32) -> usize
         idx += 1;
     }
     idx
+}
+
+// Why parts may be skipped: their products with the float are multiples of 64.
+pub fn skip_rule() -> u8
+    ensures parts { λ _. ⌜ Lowest-bits ⌝ }
+    ensures floats { λ _. ⌜ Lowest-digits ⌝ }
+    ensures skipped { λ _. ⌜ Skipped-are-whole-turns ⌝ }
+{
+    0
 }
 
 fn get_exponent_f32(bits: u32) -> i32

@@ -5,6 +5,7 @@ ghost use Rattle.exact.specs.Fraction.{whole, frac, tiny, _⊕_, _⊗_};
 ghost use Rattle.exact.specs.Value.{valueOf, Good, Held, Near};
 ghost use Rattle.circle.specs.Circle.{exactSine, exactCosine};
 ghost use Rattle.table.specs.Sines.{tableSine, tableCosine, sinY, cosm1Y, sumOf, sineOf, cosineOf};
+ghost use Rattle.table.specs.Against.{Table-sines, Table-cosines, Table-tangents, Sine-against, Cosine-against, Tangent-against, Tangent-nearer};
 use forms::Form;
 use forms::f_polyeval3;
 use forms::f_polyeval4;
@@ -85,6 +86,19 @@ fn table_sine(k: u8) -> f64
     ensures near { λ r. ⌜ Good r (exactSine (whole (k % 64))) (tiny 52) ⌝ }
 {
     f64::from_bits(SIN_K_PI_OVER32[(k % 64) as usize])
+}
+
+// The entries of the tables, and the polynomials of the rest y against the series.
+pub fn table_laws() -> u8
+    ensures sines { λ _. ⌜ Table-sines ⌝ }
+    ensures cosines { λ _. ⌜ Table-cosines ⌝ }
+    ensures tangents { λ _. ⌜ Table-tangents ⌝ }
+    ensures sine { λ _. ⌜ Sine-against ⌝ }
+    ensures cosine { λ _. ⌜ Cosine-against ⌝ }
+    ensures tangent { λ _. ⌜ Tangent-against ⌝ }
+    ensures nearer { λ _. ⌜ Tangent-nearer ⌝ }
+{
+    0
 }
 
 // A step's sine and cosine, and those of the rest y, in one form.
