@@ -20,3 +20,4 @@ pub mod TangentRadians
 pub mod TangentHalves
 pub mod TangentHalfTurns
 pub mod TangentSpecial
+pub mod Six

@@ -4,3 +4,4 @@ pub mod HalfTurns
 pub mod Tried
 pub mod Distance
 pub mod Tangent
+pub mod Six

@@ -2,6 +2,7 @@
 ghost use Prim.Native.Nat.{_*_};
 ghost use Rattle.exact.specs.Fraction.{whole, Within};
 ghost use Rattle.exact.specs.Value.{integer};
+ghost use Rattle.formulas.specs.Six.{Six};
 ghost use Rattle.sheets.specs.Book.{standingAfter};
 ghost use Rattle.sheets.specs.Sheets.{rows, totalsOf};
 ghost use Rattle.law.specs.Law.{Holds, SameMotion, cms};
@@ -21,7 +22,7 @@ pub struct Both<P, Q> {
 }
 
 // Each sheet holds what its calls left standing. Where that is the same motion, the totals along differ by at most
-// 871 for each cm/s standing, and so do those across.
+// 871 for each cm/s standing, and so do those across. And the six functions keep their distance at every float.
 pub fn run_both<P: Reader, Q: Reader>(
     one: P,
     calls: &[Call],
@@ -32,6 +33,7 @@ pub fn run_both<P: Reader, Q: Reader>(
     ensures other { λ r. ⌜ Holds (Q·Reader .steps other) (Q·Reader .answer other) (now (others .entry)) (rows (r .other)) (totalsOf (r .other)) ⌝ }
     ensures along { λ r. ⌜ (SameMotion (P·Reader .steps one) (now (calls .entry)) (Q·Reader .steps other) (now (others .entry)) → Within (integer (totalsOf (r .one) .along)) (integer (totalsOf (r .other) .along)) (whole (871 * cms (standingAfter (P·Reader .steps one) (now (calls .entry)))))) ⌝ }
     ensures across { λ r. ⌜ (SameMotion (P·Reader .steps one) (now (calls .entry)) (Q·Reader .steps other) (now (others .entry)) → Within (integer (totalsOf (r .one) .across)) (integer (totalsOf (r .other) .across)) (whole (871 * cms (standingAfter (P·Reader .steps one) (now (calls .entry)))))) ⌝ }
+    ensures functions { λ _. ⌜ Six ⌝ }
 {
     let one = run(one, calls);
     let other = run(other, others);

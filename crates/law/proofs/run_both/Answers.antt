@@ -3,6 +3,7 @@ use Rattle.exact.specs.Value.{integer}
 use Rattle.sheets.specs.Sheets.{rows, totalsOf}
 use Rattle.sheets.specs.Book.{standingAfter}
 use Prim.Native.Nat.{ℕ}
+use Rattle.formulas.proofs.Six.{six}
 use Rattle.law.proofs.Near.{holds}
 use Rattle.law.proofs.Apart.{book-distinct, along-apart, across-apart}
 use Rattle.law.proofs.run_both.Needs as need
@@ -24,4 +25,5 @@ returns g c =
       other = k;
       along = λ same. along-apart one calls other others d d′ same (integer (totalsOf p .along)) (integer (totalsOf q .along)) (h .along) (k .along);
       across = λ same. across-apart one calls other others d d′ same (integer (totalsOf p .across)) (integer (totalsOf q .across)) (h .across) (k .across);
+      functions = six;
     }
