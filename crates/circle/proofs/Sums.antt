@@ -4,7 +4,7 @@ use Prim.Native.Nat.{ℕ, zero, suc}
 use lib.Dec.{T}
 use Rattle.exact.specs.Fraction.{Fraction, _≈_, _⊑_, _⊕_, _⊗_, _⊖_, neg, whole, frac, tiny, Size, Within, leq}
 use Rattle.exact.proofs.Poly.{var, con, _:+_, _:*_, minus, _:-_, free, same}
-use Rattle.exact.proofs.Order.{≈-refl, ≈-sym, ≈-trans, ≈→⊑, ⊑-trans, ⊕-cong, ⊗-cong, neg-cong, by-test, size-⊑, size-⊗, size-≈, triangle, within-sym, within-⊑, within-≈, within-⊕, within-neg, within-mul-right}
+use Rattle.exact.proofs.Order.{≈-refl, ≈-sym, ≈-trans, ≈→⊑, ⊑-trans, ⊕-cong, ⊗-cong, neg-cong, by-test, size-⊑, size-⊗, size-≈, triangle, within-sym, within-⊑, within-≈, within-⊕, within-neg, within-mul-right, ⊗-comm}
 use Rattle.exact.proofs.Cert.{ring}
 use Rattle.circle.specs.Series.{sinSeries, cosSeries}
 use Rattle.circle.specs.Circle.{step, quarter, left, turnsOn, Nearest, turns, nearest, exactSine, exactCosine, Sum-sine, Sum-cosine}
@@ -77,12 +77,8 @@ again-cosine s c t d =
     ring (free s ∷ free c ∷ free t ∷ free d ∷ []) ((var 1 :* var 3 :- var 0 :* var 2) :* var 3 :- (var 0 :* var 3 :+ var 1 :* var 2) :* var 2)
     (var 1 :* (var 3 :* var 3 :- var 2 :* var 2) :- var 0 :* (var 2 :* var 3 :+ var 3 :* var 2)) tt
 
-flip : (a b : Fraction) → a ⊗ b ≈ b ⊗ a
-unfolding same
-flip a b = ring (free a ∷ free b ∷ []) (var 0 :* var 1) (var 1 :* var 0) tt
-
 times-left : (a b c e : Fraction) → Size c (whole 1) → Within a b e → Within (c ⊗ a) (c ⊗ b) e
-times-left a b c e h k = within-≈ (flip a c) (flip b c) (times-one a b c e h k)
+times-left a b c e h k = within-≈ (⊗-comm a c) (⊗-comm b c) (times-one a b c e h k)
 
 gather : (e : Fraction) → e ⊕ (e ⊕ e) ⊕ (e ⊕ e) ⊑ whole 5 ⊗ e
 unfolding same

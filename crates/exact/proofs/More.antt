@@ -57,7 +57,7 @@ pub quotient-rounded : (f : Format) (x y : Float) → T (finite x) → (q : T (n
 quotient-rounded f x y p q = div-rounded f x y (valueOf x ⊗ inverse y q) p q (≈-trans (⊗-assoc (valueOf x) (inverse y q) (valueOf y)) (≈-trans (⊗-cong (≈-refl (valueOf x)) (inverse-is y q)) (⊗-one (valueOf x))))
 
 -- ---- a divisor that is not zero
-not-zero : (y : Float) → T (finite y) → (valueOf y ≈ whole 0 → ⊥) → T (nonzero y)
+pub not-zero : (y : Float) → T (finite y) → (valueOf y ≈ whole 0 → ⊥) → T (nonzero y)
 not-zero nan p h = absurd p
 not-zero (inf s) p h = absurd p
 not-zero (fin false zero e) p h = absurd (h (record { eq = omega arith }))

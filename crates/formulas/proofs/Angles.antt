@@ -15,7 +15,7 @@ use Rattle.circle.specs.Circle.{step, quarter, left, Nearest, exactSine, exactC
 use Rattle.circle.proofs.Circle.{quarter-next}
 use Rattle.circle.proofs.Steady.{sine-is, cosine-is, quarter-cong}
 use Rattle.circle.proofs.Turn.{left-suc}
-use Rattle.circle.proofs.Mirror.{same-sine, same-cosine, even-cosine}
+use Rattle.circle.proofs.Mirror.{eight-less, same-sine, same-cosine, even-cosine}
 use Rattle.reducers.specs.Exact.{stepsPerRadian, radianSteps}
 
 -- i quarters and r steps more
@@ -25,9 +25,6 @@ quartersOn i r = whole 16 ⊗ whole i ⊕ r
 left-is : (i : ℕ) (r : Fraction) → left (quartersOn i r) i 0 ≈ r
 unfolding same
 left-is i r = ring (free (whole i) ∷ free r ∷ []) (((con (whole 16) :* var 0 :+ var 1) :+ con (whole 64) :* con (whole 0)) :- con (whole 16) :* var 0) (var 1) tt
-
-less-sixteen : whole 8 ⊖ whole 16 ≈ neg (whole 8)
-less-sixteen = record { eq = refl }
 
 module _ (f : Fraction → Fraction) (g : ℕ → ℕ) (is : (u : Fraction) (m n : ℕ) → Nearest u m n → f u ≈ quarter (g m) (left u m n ⊗ step)) (next : (m : ℕ) → Size (quarter (g (suc m)) (neg (whole 8) ⊗ step) ⊖ quarter (g m) (whole 8 ⊗ step)) (tiny 80)) where
   inside : (i : ℕ) (r : Fraction) → neg (whole 8) ⊑ r → ¬ (whole 8 ⊑ r) → f (quartersOn i r) ≈ quarter (g i) (r ⊗ step)
@@ -39,7 +36,7 @@ module _ (f : Fraction → Fraction) (g : ℕ → ℕ) (is : (u : Fraction) (m n
   ending : (i : ℕ) (r : Fraction) → r ≈ whole 8 → Within (f (quartersOn i r)) (quarter (g i) (r ⊗ step)) (tiny 80)
   ending i r e =
       let u = quartersOn i r in
-      let l : left u (suc i) 0 ≈ neg (whole 8) = ≈-trans (left-suc u i 0) (≈-trans (⊕-cong (≈-trans (left-is i r) e) (≈-refl (neg (whole 16)))) less-sixteen) in
+      let l : left u (suc i) 0 ≈ neg (whole 8) = ≈-trans (left-suc u i 0) (≈-trans (⊕-cong (≈-trans (left-is i r) e) (≈-refl (neg (whole 16)))) eight-less) in
       let n : Nearest u (suc i) 0 = record { above = ≈→⊒ l; below = λ k. apart (⊑-trans k (≈→⊑ l)) } in
       within-≈ (≈-sym (≈-trans (is u (suc i) 0 n) (quarter-cong (g (suc i)) (⊗-cong l (≈-refl step))))) (quarter-cong (g i) (⊗-cong (≈-sym e) (≈-refl step))) (size→within (next i))
     where

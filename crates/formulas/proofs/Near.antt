@@ -13,10 +13,11 @@ use Rattle.exact.proofs.Bound.{bound}
 use Rattle.circle.specs.Series.{sinSeries, cosSeries}
 use Rattle.circle.specs.Circle.{step}
 use Rattle.circle.proofs.Sines.{nestE, sinE, cosE, sin-is, cos-is}
-use Rattle.forms.specs.Polyeval.{polyeval5, polyeval6, estrin7}
+use Rattle.forms.specs.Polyeval.{polyeval6}
 use Rattle.formulas.specs.Words.{fmla, narrowed, one as one64, minusTiny}
-use Rattle.formulas.specs.Radians.{sinX2, sinX4, sinX6, sinX8, sinNear, cosX2, cosX4, cosX6, cosX8, cosNear}
-use Rattle.formulas.specs.HalfTurns.{pi, minusPi3Over6, sinpiNear, cospiNear, sinpiY, cospiY}
+use Rattle.formulas.specs.Radians.{sinNearIn, sinNear, cosNearIn, cosNear}
+use Rattle.formulas.specs.HalfTurns.{pi, minusPi3Over6, sinpiNearIn, sinpiNear, cospiNearIn, cospiNear, sinpiYIn, sinpiY, cospiYIn, cospiY}
+use Rattle.formulas.specs.Polynomials.{exactly, Sine-series, Cosine-series, Half-sine-series, Half-cosine-series, Quarter-sine-series, Quarter-cosine-series}
 use Rattle.formulas.proofs.Narrowed.{short, Closer, one-closer}
 use Rattle.formulas.proofs.Angles.{halfTurns}
 use Rattle.formulas.proofs.Trees.{own, square, mlaE, mulE, meant, one, sound, against, plainly, middle, two, about-middle}
@@ -40,35 +41,43 @@ mulX a b = a :* b
 -- ---- radians
 -- the sine up to 1 / 5
 sine-tree : Exp
-sine-tree = mulE (arg 0) (polyeval5 mlaE square (own one64) (own sinX2) (own sinX4) (own sinX6) (own sinX8))
+sine-tree = sinNearIn mlaE mulE own (arg 0)
 
 sine-sound : (x : Float) (H : Held x (frac 1 5)) → T (sound x (frac 1 5) H sine-tree (tiny 50))
 unfolding leq scan size ofBits ofFields odd trailingZeros sine-tree
 sine-sound x H = tt
 
-sine-small : (x : Float) → T (small (one (valueOf x) (frac 1 5)) (tiny 44) (meant sine-tree :- sinE (var 0)))
+sine-small : (y : Fraction) → T (small (one y (frac 1 5)) (tiny 44) (meant sine-tree :- sinE (var 0)))
 unfolding small leq sine-tree sinE ofBits ofFields odd trailingZeros
-sine-small x = tt
+sine-small y = tt
+
+pub sine-series : Sine-series
+unfolding sine-tree
+sine-series x h = size→within (size-≈ (⊕-cong (≈-refl (val (one x (frac 1 5)) (meant sine-tree))) (neg-cong (sin-is (one x (frac 1 5)) (var 0)))) (bound (one x (frac 1 5)) (h, tt) (tiny 44) (meant sine-tree :- sinE (var 0)) (sine-small x)))
 
 pub sine-near : (x : Float) → Held x (frac 1 5) → Good (sinNear x) (sinSeries (valueOf x)) short
 unfolding leq sine-tree
-sine-near x H = against x (frac 1 5) H sine-tree (sinE (var 0)) (sinSeries (valueOf x)) (tiny 50) (tiny 44) short (sine-sound x H) (plainly x (frac 1 5) H (meant sine-tree :- sinE (var 0)) (tiny 44) (sine-small x)) (sin-is (one (valueOf x) (frac 1 5)) (var 0)) tt
+sine-near x H = against x (frac 1 5) H sine-tree (sinE (var 0)) (sinSeries (valueOf x)) (tiny 50) (tiny 44) short (sine-sound x H) (plainly x (frac 1 5) H (meant sine-tree :- sinE (var 0)) (tiny 44) (sine-small (valueOf x))) (sin-is (one (valueOf x) (frac 1 5)) (var 0)) tt
 
 -- the cosine up to 1 / 5
 cosine-tree : Exp
-cosine-tree = polyeval5 mlaE square (own one64) (own cosX2) (own cosX4) (own cosX6) (own cosX8)
+cosine-tree = cosNearIn mlaE mulE own (arg 0)
 
 cosine-sound : (x : Float) (H : Held x (frac 1 5)) → T (sound x (frac 1 5) H cosine-tree (tiny 50))
 unfolding leq scan size ofBits ofFields odd trailingZeros cosine-tree
 cosine-sound x H = tt
 
-cosine-small : (x : Float) → T (small (one (valueOf x) (frac 1 5)) (tiny 41) (meant cosine-tree :- cosE (var 0)))
+cosine-small : (y : Fraction) → T (small (one y (frac 1 5)) (tiny 41) (meant cosine-tree :- cosE (var 0)))
 unfolding small leq cosine-tree cosE ofBits ofFields odd trailingZeros
-cosine-small x = tt
+cosine-small y = tt
+
+pub cosine-series : Cosine-series
+unfolding cosine-tree
+cosine-series x h = size→within (size-≈ (⊕-cong (≈-refl (val (one x (frac 1 5)) (meant cosine-tree))) (neg-cong (cos-is (one x (frac 1 5)) (var 0)))) (bound (one x (frac 1 5)) (h, tt) (tiny 41) (meant cosine-tree :- cosE (var 0)) (cosine-small x)))
 
 pub cosine-near : (x : Float) → Held x (frac 1 5) → Good (cosNear x) (cosSeries (valueOf x)) short
 unfolding leq cosine-tree
-cosine-near x H = against x (frac 1 5) H cosine-tree (cosE (var 0)) (cosSeries (valueOf x)) (tiny 50) (tiny 41) short (cosine-sound x H) (plainly x (frac 1 5) H (meant cosine-tree :- cosE (var 0)) (tiny 41) (cosine-small x)) (cos-is (one (valueOf x) (frac 1 5)) (var 0)) tt
+cosine-near x H = against x (frac 1 5) H cosine-tree (cosE (var 0)) (cosSeries (valueOf x)) (tiny 50) (tiny 41) short (cosine-sound x H) (plainly x (frac 1 5) H (meant cosine-tree :- cosE (var 0)) (tiny 41) (cosine-small (valueOf x))) (cos-is (one (valueOf x) (frac 1 5)) (var 0)) tt
 
 -- x - x / 2 ^ 25, up to 30 / 2 ^ 16
 line-tree : Exp
@@ -100,7 +109,7 @@ unfolding leq line-tree
 line-near x H = against x (frac 30 65536) H line-tree (sinE (var 0)) (sinSeries (valueOf x)) (tiny 60) (tiny 36 ⊖ tiny 40) short (line-sound x H) (line-size (valueOf x) (H .size)) (sin-is (one (valueOf x) (frac 30 65536)) (var 0)) tt
 
 -- next to zero the argument itself
-zero-sound : (x : Float) (H : Held x (tiny 60)) → T (sound x (tiny 60) H (arg 0) (tiny 60))
+pub zero-sound : (x : Float) (H : Held x (tiny 60)) → T (sound x (tiny 60) H (arg 0) (tiny 60))
 unfolding leq scan
 zero-sound x H = tt
 
@@ -153,17 +162,13 @@ line-closer x v H w = one-closer (fmla x minusTiny one64) v (tiny 52 ⊕ tiny 37
 
 -- ---- half turns
 -- next to zero the argument itself will do
-half-zero-sound : (x : Float) (H : Held x (tiny 60)) → T (sound x (tiny 60) H (arg 0) (tiny 60))
-unfolding leq scan
-half-zero-sound x H = tt
-
 half-zero-small : (x : Float) → T (small (one (valueOf x) (tiny 60)) (tiny 58) (meant (arg 0) :- sinE (var 0 :* angle)))
 unfolding small leq sinE step
 half-zero-small x = tt
 
 pub half-zero-near : (x : Float) → Held x (tiny 60) → Good x (sinSeries (halfTurns (valueOf x))) short
 unfolding leq
-half-zero-near x H = against x (tiny 60) H (arg 0) (sinE (var 0 :* angle)) (sinSeries (halfTurns (valueOf x))) (tiny 60) (tiny 58) short (half-zero-sound x H) (plainly x (tiny 60) H (meant (arg 0) :- sinE (var 0 :* angle)) (tiny 58) (half-zero-small x)) (sin-is (one (valueOf x) (tiny 60)) (var 0 :* angle)) tt
+half-zero-near x H = against x (tiny 60) H (arg 0) (sinE (var 0 :* angle)) (sinSeries (halfTurns (valueOf x))) (tiny 60) (tiny 58) short (zero-sound x H) (plainly x (tiny 60) H (meant (arg 0) :- sinE (var 0 :* angle)) (tiny 58) (half-zero-small x)) (sin-is (one (valueOf x) (tiny 60)) (var 0 :* angle)) tt
 
 -- the cosine below 0x38a2f984
 abbrev pub belowLine : Fraction
@@ -178,35 +183,43 @@ half-dip y h = size→within (size-≈ (⊕-cong (≈-refl (whole 1)) (neg-cong 
 
 -- the sine up to 1 / 16
 half-sine-tree : Exp
-half-sine-tree = mulE (arg 0) (polyeval5 mlaE square (own pi) (own (c 0xc014abbce625bbf2)) (own (c 0x400466bc675e116a)) (own (c 0xbfe32d2c0b62d41c)) (own (c 0x3fb501ec4497cb7d)))
+half-sine-tree = sinpiNearIn mlaE mulE own (arg 0)
 
 half-sine-sound : (x : Float) (H : Held x (frac 1 16)) → T (sound x (frac 1 16) H half-sine-tree (tiny 50))
 unfolding leq scan size ofBits ofFields odd trailingZeros half-sine-tree
 half-sine-sound x H = tt
 
-half-sine-small : (x : Float) → T (small (one (valueOf x) (frac 1 16)) (tiny 44) (meant half-sine-tree :- sinE (var 0 :* angle)))
+half-sine-small : (y : Fraction) → T (small (one y (frac 1 16)) (tiny 44) (meant half-sine-tree :- sinE (var 0 :* angle)))
 unfolding small leq half-sine-tree sinE step ofBits ofFields odd trailingZeros
-half-sine-small x = tt
+half-sine-small y = tt
+
+pub half-sine-series : Half-sine-series
+unfolding half-sine-tree
+half-sine-series x h = size→within (size-≈ (⊕-cong (≈-refl (val (one x (frac 1 16)) (meant half-sine-tree))) (neg-cong (sin-is (one x (frac 1 16)) (var 0 :* angle)))) (bound (one x (frac 1 16)) (h, tt) (tiny 44) (meant half-sine-tree :- sinE (var 0 :* angle)) (half-sine-small x)))
 
 pub half-sine-near : (x : Float) → Held x (frac 1 16) → Good (sinpiNear x) (sinSeries (halfTurns (valueOf x))) short
 unfolding leq half-sine-tree sinpiNear
-half-sine-near x H = against x (frac 1 16) H half-sine-tree (sinE (var 0 :* angle)) (sinSeries (halfTurns (valueOf x))) (tiny 50) (tiny 44) short (half-sine-sound x H) (plainly x (frac 1 16) H (meant half-sine-tree :- sinE (var 0 :* angle)) (tiny 44) (half-sine-small x)) (sin-is (one (valueOf x) (frac 1 16)) (var 0 :* angle)) tt
+half-sine-near x H = against x (frac 1 16) H half-sine-tree (sinE (var 0 :* angle)) (sinSeries (halfTurns (valueOf x))) (tiny 50) (tiny 44) short (half-sine-sound x H) (plainly x (frac 1 16) H (meant half-sine-tree :- sinE (var 0 :* angle)) (tiny 44) (half-sine-small (valueOf x))) (sin-is (one (valueOf x) (frac 1 16)) (var 0 :* angle)) tt
 
 -- the cosine up to 1 / 16
 half-cosine-tree : Exp
-half-cosine-tree = polyeval5 mlaE square (own one64) (own (c 0xc013bd3cc9be43f7)) (own (c 0x40103c1f08091fe0)) (own (c 0xbff55d3ba3d94835)) (own (c 0x3fce173c2a00e74e))
+half-cosine-tree = cospiNearIn mlaE mulE own (arg 0)
 
 half-cosine-sound : (x : Float) (H : Held x (frac 1 16)) → T (sound x (frac 1 16) H half-cosine-tree (tiny 50))
 unfolding leq scan size ofBits ofFields odd trailingZeros half-cosine-tree
 half-cosine-sound x H = tt
 
-half-cosine-small : (x : Float) → T (small (one (valueOf x) (frac 1 16)) (tiny 41) (meant half-cosine-tree :- cosE (var 0 :* angle)))
+half-cosine-small : (y : Fraction) → T (small (one y (frac 1 16)) (tiny 41) (meant half-cosine-tree :- cosE (var 0 :* angle)))
 unfolding small leq half-cosine-tree cosE step ofBits ofFields odd trailingZeros
-half-cosine-small x = tt
+half-cosine-small y = tt
+
+pub half-cosine-series : Half-cosine-series
+unfolding half-cosine-tree
+half-cosine-series x h = size→within (size-≈ (⊕-cong (≈-refl (val (one x (frac 1 16)) (meant half-cosine-tree))) (neg-cong (cos-is (one x (frac 1 16)) (var 0 :* angle)))) (bound (one x (frac 1 16)) (h, tt) (tiny 41) (meant half-cosine-tree :- cosE (var 0 :* angle)) (half-cosine-small x)))
 
 pub half-cosine-near : (x : Float) → Held x (frac 1 16) → Good (cospiNear x) (cosSeries (halfTurns (valueOf x))) short
 unfolding leq half-cosine-tree cospiNear
-half-cosine-near x H = against x (frac 1 16) H half-cosine-tree (cosE (var 0 :* angle)) (cosSeries (halfTurns (valueOf x))) (tiny 50) (tiny 41) short (half-cosine-sound x H) (plainly x (frac 1 16) H (meant half-cosine-tree :- cosE (var 0 :* angle)) (tiny 41) (half-cosine-small x)) (cos-is (one (valueOf x) (frac 1 16)) (var 0 :* angle)) tt
+half-cosine-near x H = against x (frac 1 16) H half-cosine-tree (cosE (var 0 :* angle)) (cosSeries (halfTurns (valueOf x))) (tiny 50) (tiny 41) short (half-cosine-sound x H) (plainly x (frac 1 16) H (meant half-cosine-tree :- cosE (var 0 :* angle)) (tiny 41) (half-cosine-small (valueOf x))) (cos-is (one (valueOf x) (frac 1 16)) (var 0 :* angle)) tt
 
 -- two terms up to 2 ^ -19
 half-tiny-tree : Exp
@@ -230,7 +243,7 @@ piece = tiny 48 ⊕ tiny 37
 
 -- the sine up to 1 / 4
 quarter-sine-tree : Exp
-quarter-sine-tree = mulE (polyeval6 mlaE mulE square (own (c 0x400921fb54442cf8)) (own (c 0xc014abbce6257778)) (own (c 0x400466bc670fa464)) (own (c 0xbfe32d2c627f47da)) (own (c 0x3fb5071be0a2d3da)) (own (c 0xbf7dd4e0ae5b9fcd))) (arg 0)
+quarter-sine-tree = sinpiYIn mlaE mulE own (arg 0)
 
 quarter-sine-sound : (x : Float) (H : Held x (frac 1 4)) → T (sound x (frac 1 4) H quarter-sine-tree (tiny 48))
 unfolding leq scan size ofBits ofFields odd trailingZeros quarter-sine-tree
@@ -253,22 +266,30 @@ quarter-sine-size : (y : Fraction) → Size y (frac 1 4) → Size (val (one y (f
 unfolding quarter-sine-parts
 quarter-sine-size y h = size-≈ (ring (one y (frac 1 4)) (quarter-sine-parts ((var 0 :* var 0 :- con (middle (frac 1 4))) :+ con (middle (frac 1 4)))) (meant quarter-sine-tree :- sinE (var 0 :* angle)) quarter-sine-same) (bound (two y (frac 1 4)) (h, (about-middle y (frac 1 4) h, tt)) (tiny 41) (quarter-sine-parts (var 1 :+ con (middle (frac 1 4)))) (quarter-sine-small y))
 
+pub quarter-sine-series : Quarter-sine-series
+unfolding quarter-sine-tree
+quarter-sine-series x h = size→within (size-≈ (⊕-cong (≈-refl (val (one x (frac 1 4)) (meant quarter-sine-tree))) (neg-cong (sin-is (one x (frac 1 4)) (var 0 :* angle)))) (quarter-sine-size x h))
+
 pub quarter-sine-near : (x : Float) → Held x (frac 1 4) → Good (sinpiY x) (sinSeries (halfTurns (valueOf x))) piece
 unfolding leq quarter-sine-tree sinpiY
 quarter-sine-near x H = against x (frac 1 4) H quarter-sine-tree (sinE (var 0 :* angle)) (sinSeries (halfTurns (valueOf x))) (tiny 48) (tiny 41) piece (quarter-sine-sound x H) (quarter-sine-size (valueOf x) (H .size)) (sin-is (one (valueOf x) (frac 1 4)) (var 0 :* angle)) tt
 
 -- the cosine up to 1 / 4
 quarter-cosine-tree : Exp
-quarter-cosine-tree = estrin7 mlaE mulE square (own one64) (own (c 0xc013bd3cc9be459b)) (own (c 0x40103c1f081b0c98)) (own (c 0xbff55d3c7dc25308)) (own (c 0x3fce1f4fb6e12563)) (own (c 0xbf9a6c9c101c1182)) (own (c 0x3f5f3d9faffda250))
+quarter-cosine-tree = cospiYIn mlaE mulE own (arg 0)
 
 quarter-cosine-sound : (x : Float) (H : Held x (frac 1 4)) → T (sound x (frac 1 4) H quarter-cosine-tree (tiny 48))
 unfolding leq scan size ofBits ofFields odd trailingZeros quarter-cosine-tree
 quarter-cosine-sound x H = tt
 
-quarter-cosine-small : (x : Float) → T (small (one (valueOf x) (frac 1 4)) (tiny 37) (meant quarter-cosine-tree :- cosE (var 0 :* angle)))
+quarter-cosine-small : (y : Fraction) → T (small (one y (frac 1 4)) (tiny 37) (meant quarter-cosine-tree :- cosE (var 0 :* angle)))
 unfolding small leq quarter-cosine-tree cosE step ofBits ofFields odd trailingZeros
-quarter-cosine-small x = tt
+quarter-cosine-small y = tt
+
+pub quarter-cosine-series : Quarter-cosine-series
+unfolding quarter-cosine-tree
+quarter-cosine-series x h = size→within (size-≈ (⊕-cong (≈-refl (val (one x (frac 1 4)) (meant quarter-cosine-tree))) (neg-cong (cos-is (one x (frac 1 4)) (var 0 :* angle)))) (bound (one x (frac 1 4)) (h, tt) (tiny 37) (meant quarter-cosine-tree :- cosE (var 0 :* angle)) (quarter-cosine-small x)))
 
 pub quarter-cosine-near : (x : Float) → Held x (frac 1 4) → Good (cospiY x) (cosSeries (halfTurns (valueOf x))) piece
 unfolding leq quarter-cosine-tree cospiY
-quarter-cosine-near x H = against x (frac 1 4) H quarter-cosine-tree (cosE (var 0 :* angle)) (cosSeries (halfTurns (valueOf x))) (tiny 48) (tiny 37) piece (quarter-cosine-sound x H) (plainly x (frac 1 4) H (meant quarter-cosine-tree :- cosE (var 0 :* angle)) (tiny 37) (quarter-cosine-small x)) (cos-is (one (valueOf x) (frac 1 4)) (var 0 :* angle)) tt
+quarter-cosine-near x H = against x (frac 1 4) H quarter-cosine-tree (cosE (var 0 :* angle)) (cosSeries (halfTurns (valueOf x))) (tiny 48) (tiny 37) piece (quarter-cosine-sound x H) (plainly x (frac 1 4) H (meant quarter-cosine-tree :- cosE (var 0 :* angle)) (tiny 37) (quarter-cosine-small (valueOf x))) (cos-is (one (valueOf x) (frac 1 4)) (var 0 :* angle)) tt

@@ -15,6 +15,7 @@ use Rattle.circle.proofs.Steady.{sin-one, cos-one, sin-cong, cos-cong}
 use Rattle.circle.proofs.Mirror.{sine-at-most-one, cosine-at-most-one}
 use Rattle.reducers.specs.Reduce.{reduce}
 use Rattle.reducers.specs.Exact.{field, stepsPerRadian, radianSteps}
+use Rattle.reducers.proofs.Radian.{per-radian}
 use Rattle.formulas.specs.Words.{sizeBits, fmla, narrowed, one, minusTiny, sineAt, cosineAt}
 use Rattle.formulas.specs.Radians.{infinite, sinNear, cosNear, sinf, cosOf}
 use Rattle.formulas.specs.Distance.{Close, Radian-sine, Radian-cosine}
@@ -26,10 +27,6 @@ use Rattle.formulas.proofs.Far.{sine-far, cosine-far}
 use Rattle.formulas.proofs.Near.{sine-near, cosine-near, line-near, zero-near, belowTwelve, cosine-dip, line-closer}
 
 -- ---- up to 1 / 5 the series of the value
-per-radian : Size stepsPerRadian (whole 11)
-unfolding sizeTest
-per-radian = size-by-test stepsPerRadian (whole 11) tt
-
 few-steps : (x : Float) → Size (valueOf x) (frac 1 5) → Size (radianSteps x) (whole 7)
 unfolding leq
 few-steps x h = size-⊑ (by-test {a = frac 1 5 ⊗ whole 11} {b = whole 7} tt) (size-⊗ h per-radian)

@@ -15,6 +15,7 @@ use Rattle.exact.specs.Fraction.{Fraction, _≈_, _⊑_, _⊕_, _⊗_, _⊖_, n
 use Rattle.exact.specs.Value.{valueOf, signed, Good, Held}
 use Rattle.exact.specs.Rounded.{Rounded, inRange, errorOf}
 use Rattle.exact.proofs.Order.{by-test, ≈-refl, ≈-sym, ≈-trans, ≈→⊑, ≈→⊒, ⊑-trans, ⊕-cong, ⊗-cong, ⊗-assoc, ⊗-one, ⊗-comm, nonneg, nonneg⁻, diff, abs-size, size-⊑, size-≈, size-⊕, size-⊗, size-neg, size-near, size-by-test, size→within, within→size, triangle, within-⊑, within-≈, within-⊕, within-sym, within-refl, within-mul-right}
+use Rattle.exact.proofs.More.{not-zero}
 use Rattle.exact.proofs.Poly.{Expr, var, con, _:+_, _:*_, _:-_, minus, free, Env, same, small, le, hyp, num, _+c_, _*c_}
 use Rattle.exact.proofs.Cert.{ring, prove}
 use Rattle.exact.proofs.Bound.{bound}
@@ -65,18 +66,6 @@ inverse-of nan p = absurd p
 inverse-of (inf s) p = absurd p
 inverse-of (fin true m e) p = record { at = signed true (down e) (m * up e) (mul-pos (ltb→lt 0 m p) (up-pos e)); is = record { eq = omega arith } }
 inverse-of (fin false m e) p = record { at = signed false (down e) (m * up e) (mul-pos (ltb→lt 0 m p) (up-pos e)); is = record { eq = omega arith } }
-
-pub nonzero-of : (y : Float) → T (finite y) → (valueOf y ≈ whole 0 → ⊥) → T (nonzero y)
-nonzero-of nan p n = absurd p
-nonzero-of (inf s) p n = absurd p
-nonzero-of (fin true m e) p n = lt→ltb 0 m (elim (decLe 1 m) [ yes k ↦ k | no k ↦ absurd (n (record { eq = none m (up e) (omega arith) })) ])
-  where
-    none : (m u : ℕ) → m ≡ 0 → 0 * 1 + 0 * down e ≡ 0 * down e + m * u * 1
-    none m u h = rw h (omega arith)
-nonzero-of (fin false m e) p n = lt→ltb 0 m (elim (decLe 1 m) [ yes k ↦ k | no k ↦ absurd (n (record { eq = none m (up e) (omega arith) })) ])
-  where
-    none : (m u : ℕ) → m ≡ 0 → m * u * 1 + 0 * down e ≡ 0 * down e + 0 * 1
-    none m u h = rw h (omega arith)
 
 -- the quotient v, of which the float is the rounding
 pub record Quotient (x y : Float) : Type 0 where
@@ -297,7 +286,7 @@ module _ (ty tk : Float) (ht : Held ty (frac 1 13)) (hk : Held tk (frac 41 4)) w
   rest-apart = apart (t ⊗ x) (valueOf (fmla ty (negate tk) one)) (size-⊑ (by-test {a = frac 1 13 ⊗ frac 41 4} {b = frac 41 52} tt) (size-⊗ (ht .size) (hk .size)) .below) (rest-near .above)
 
   rest-nonzero : T (nonzero (fmla ty (negate tk) one))
-  rest-nonzero = nonzero-of (fmla ty (negate tk) one) (rest-good .fin) (λ e. clash (⊑-trans rest-apart (≈→⊑ e)))
+  rest-nonzero = not-zero (fmla ty (negate tk) one) (rest-good .fin) (λ e. clash (⊑-trans rest-apart (≈→⊑ e)))
     where
       clash : frac 1 5 ⊑ whole 0 → ⊥
       clash h = omega (arith, h .le)

@@ -9,19 +9,21 @@ use Rattle.exact.specs.Straight.{Exp, var as arg, scan, run}
 use Rattle.exact.specs.Value.{valueOf, Good, Held}
 use Rattle.exact.proofs.Order.{by-test, ≈-refl, ⊕-neg, ⊕-cong, ⊗-cong, neg-cong, size-≈, size-⊑, size-near, size→within, triangle, within-⊑, within-mul-right}
 use Rattle.exact.proofs.Poly.{Expr, var, con, _:*_, _:-_, val, small}
+use Rattle.exact.proofs.Bound.{bound}
 use Rattle.circle.specs.Series.{sinSeries, cosSeries}
 use Rattle.circle.specs.Circle.{step}
 use Rattle.circle.proofs.Sines.{sinE, cosE, sin-is, cos-is}
 use Rattle.circle.proofs.Steady.{cos-one}
 use Rattle.circle.proofs.Turn.{small-step}
-use Rattle.forms.specs.Polyeval.{polyeval4, polyeval5}
+use Rattle.forms.specs.Polyeval.{polyeval4}
 use Rattle.table.specs.Tangents.{tan0, tan1, tan2, tan3, tanY}
-use Rattle.formulas.specs.Words.{fmla, one as one64, minusTiny}
-use Rattle.formulas.specs.Radians.{tanX2, tanX4, tanX6, tanX8, tanNear}
+use Rattle.formulas.specs.Words.{fmla, minusTiny}
+use Rattle.formulas.specs.Radians.{tanNearIn, tanNear}
 use Rattle.formulas.specs.HalfTurns.{pi, pi3Over3}
+use Rattle.formulas.specs.Polynomials.{Tangent-series}
 use Rattle.formulas.proofs.Angles.{halfTurns}
 use Rattle.formulas.proofs.Trees.{own, square, mlaE, mulE, meant, one, only, sound, apart, plainly}
-use Rattle.formulas.proofs.Near.{belowTwelve}
+use Rattle.formulas.proofs.Near.{belowTwelve, zero-sound}
 use Rattle.formulas.proofs.TangentNarrowed.{no-size}
 
 -- the angle of a half turn
@@ -61,23 +63,29 @@ sixty = by-test {a = whole 1 ⊕ (tiny 60 ⊕ whole 0)} {b = whole 2} tt
 
 -- ---- radians
 tree : Exp
-tree = mulE (arg 0) (polyeval5 mlaE square (own one64) (own tanX2) (own tanX4) (own tanX6) (own tanX8))
+tree = tanNearIn mlaE mulE own (arg 0)
 
 near-sound : (x : Float) (H : Held x (frac 1 10)) → T (sound x (frac 1 10) H tree (tiny 50))
 unfolding leq scan size ofBits ofFields odd trailingZeros tree
 near-sound x H = tt
 
-near-small : (x : Float) → T (small (one (valueOf x) (frac 1 10)) (tiny 40) (meant tree :* cosE (var 0) :- sinE (var 0)))
+near-small : (y : Fraction) → T (small (one y (frac 1 10)) (tiny 40) (meant tree :* cosE (var 0) :- sinE (var 0)))
 unfolding small leq tree sinE cosE ofBits ofFields odd trailingZeros
-near-small x = tt
+near-small y = tt
 
 near-unit : (x : Float) → T (small (one (valueOf x) (frac 1 10)) (whole 1) (meant tree))
 unfolding small leq tree ofBits ofFields odd trailingZeros
 near-unit x = tt
 
+pub tangent-series : Tangent-series
+unfolding tree
+tangent-series x h =
+    let ρ = one x (frac 1 10) in
+    size→within (size-≈ (⊕-cong (⊗-cong (≈-refl (val ρ (meant tree))) (cos-is ρ (var 0))) (neg-cong (sin-is ρ (var 0)))) (bound ρ (h, tt) (tiny 40) (meant tree :* cosE (var 0) :- sinE (var 0)) (near-small x)))
+
 pub near-ratio : (x : Float) → Held x (frac 1 10) → Ratio (tanNear x) (valueOf x) ((tiny 50 ⊕ whole 0) ⊗ whole 1 ⊕ tiny 40)
 unfolding tree leq
-near-ratio x H = ratio x (frac 1 10) H tree (var 0) (tiny 50) (tiny 40) (near-sound x H) (near-small x) (near-unit x) fifty (size-⊑ (by-test tt) (H .size))
+near-ratio x H = ratio x (frac 1 10) H tree (var 0) (tiny 50) (tiny 40) (near-sound x H) (near-small (valueOf x)) (near-unit x) fifty (size-⊑ (by-test tt) (H .size))
 
 -- x - x / 2 ^ 25 below 2 ^ -12
 line-tree : Exp
@@ -100,10 +108,6 @@ unfolding line-tree leq
 line-ratio x H = ratio x belowTwelve H line-tree (var 0) (tiny 60) (tiny 36) (line-sound x H) (line-small x) (line-unit x) sixty (size-⊑ (by-test tt) (H .size))
 
 -- next to zero the argument itself
-zero-sound : (x : Float) (H : Held x (tiny 60)) → T (sound x (tiny 60) H (arg 0) (tiny 60))
-unfolding leq scan
-zero-sound x H = tt
-
 zero-small : (x : Float) → T (small (one (valueOf x) (tiny 60)) (tiny 60) (meant (arg 0) :* cosE (var 0) :- sinE (var 0)))
 unfolding small leq sinE cosE
 zero-small x = tt

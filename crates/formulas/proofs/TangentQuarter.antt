@@ -14,6 +14,7 @@ use Rattle.exact.specs.Value.{valueOf, Good, Held}
 use Rattle.exact.specs.Multiple.{pw, Apart}
 use Rattle.exact.specs.Rounded.{Rounded, inRange, units, place}
 use Rattle.exact.proofs.Order.{by-test, ≈-refl, ≈-sym, ≈-trans, ≈→⊑, ≈→⊒, ⊑-refl, ⊑-trans, ⊕-cong, ⊕-mono, ⊕-zero, zero-⊕, ⊗-mono, ⊗-mono-right, tiny-pos, neg-mono, ⊑-abs, neg-⊑-abs, tiny-mono, diff, abs-size, abs-below, size-⊑, size-≈, size-⊕, size-⊗, size-neg, size-near, size-by-test, size→within, within→size, triangle, within-⊑, within-≈, within-⊕, within-sym, within-refl, within-by-test}
+use Rattle.exact.proofs.More.{not-zero}
 use Rattle.exact.proofs.Poly.{Expr, var, con, _:+_, _:*_, _:-_, minus, free, Env, val, same, small, le, hyp, num, _+c_, _*c_}
 use Rattle.exact.proofs.Cert.{ring, prove}
 use Rattle.exact.proofs.Bound.{bound}
@@ -30,7 +31,7 @@ use Rattle.table.proofs.Tangents.{table-tangent}
 use Rattle.formulas.specs.Words.{one, fmla}
 use Rattle.formulas.proofs.TangentNarrowed.{rounded-part, flipped, abs-⊗, abs-pos, no-size}
 use Rattle.formulas.proofs.TangentNear.{one-step, step-angle, steps-near, steps-held, tanFactor, factor-near}
-use Rattle.formulas.proofs.TangentFar.{divided, nonzero-of, Quotient, quotient-of, Ahead, one-is, one-size, one-finite}
+use Rattle.formulas.proofs.TangentFar.{divided, Quotient, quotient-of, Ahead, one-is, one-size, one-finite}
 
 -- ---- rounding by a part of the exact size
 in-range : T (inRange binary64 (whole (2 ^ 160)))
@@ -233,7 +234,7 @@ module _ (ty tk : Float) (ht : Held ty (frac 1 13)) (fk : T (finite tk)) (sk : S
       (triangle (rest-good .near) (within-≈ (≈-refl (valueOf m ⊕ valueOf one)) (⊕-zero (t ⊗ z)) (within-⊕ (product-good .near) one-off)))
 
   rest-nonzero : T (nonzero d)
-  rest-nonzero = nonzero-of d (rest-good .fin) (λ e. not-small (b ⊗ z) w-large (⊑-trans (⊑-trans (⊗-mono-right b (abs-pos t) (⊑-abs z)) (abs-⊗ t z)) (abs-below (t ⊗ z) (whole 0 ⊕ (b ⊗ z) ⊗ tiny 28) (size-near (within-sym rest-near) (no-size e)))))
+  rest-nonzero = not-zero d (rest-good .fin) (λ e. not-small (b ⊗ z) w-large (⊑-trans (⊑-trans (⊗-mono-right b (abs-pos t) (⊑-abs z)) (abs-⊗ t z)) (abs-below (t ⊗ z) (whole 0 ⊕ (b ⊗ z) ⊗ tiny 28) (size-near (within-sym rest-near) (no-size e)))))
 
   -- the sum
   sum-good : Good n (t ⊕ valueOf tk) (abs (t ⊕ valueOf tk) ⊗ tiny 52 ⊕ tiny 199)

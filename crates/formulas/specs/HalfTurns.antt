@@ -28,21 +28,37 @@ minusPi3Over6 = c 0xc014abbce625be53
 abbrev pub pi3Over3 : Float
 pi3Over3 = c 0x4024abbce625be53
 
--- sin(πy) on [-1/4, 1/4]: sin(πy)/y by even powers up to 10
+-- sin(πy) on [-1/4, 1/4]: sin(πy)/y by even powers up to 10, in any arithmetic
+abbrev pub sinpiYIn : {A : Type 0} → (A → A → A → A) → (A → A → A) → (Float → A) → A → A
+sinpiYIn mla product own y = product (polyeval6 mla product (product y y) (own (c 0x400921fb54442cf8)) (own (c 0xc014abbce6257778)) (own (c 0x400466bc670fa464)) (own (c 0xbfe32d2c627f47da)) (own (c 0x3fb5071be0a2d3da)) (own (c 0xbf7dd4e0ae5b9fcd))) y
+
+-- in f64
 unfoldable pub sinpiY : Float → Float
-sinpiY y = mul binary64 (polyeval6 fmla (mul binary64) (mul binary64 y y) (c 0x400921fb54442cf8) (c 0xc014abbce6257778) (c 0x400466bc670fa464) (c 0xbfe32d2c627f47da) (c 0x3fb5071be0a2d3da) (c 0xbf7dd4e0ae5b9fcd)) y
+sinpiY = sinpiYIn fmla (mul binary64) (λ a. a)
 
--- cos(πy) on [-1/4, 1/4]: even powers up to 12, the first coefficient 1
+-- cos(πy) on [-1/4, 1/4]: even powers up to 12, the first coefficient 1, in any arithmetic
+abbrev pub cospiYIn : {A : Type 0} → (A → A → A → A) → (A → A → A) → (Float → A) → A → A
+cospiYIn mla product own y = estrin7 mla product (product y y) (own one) (own (c 0xc013bd3cc9be459b)) (own (c 0x40103c1f081b0c98)) (own (c 0xbff55d3c7dc25308)) (own (c 0x3fce1f4fb6e12563)) (own (c 0xbf9a6c9c101c1182)) (own (c 0x3f5f3d9faffda250))
+
+-- in f64
 unfoldable pub cospiY : Float → Float
-cospiY y = estrin7 fmla (mul binary64) (mul binary64 y y) one (c 0xc013bd3cc9be459b) (c 0x40103c1f081b0c98) (c 0xbff55d3c7dc25308) (c 0x3fce1f4fb6e12563) (c 0xbf9a6c9c101c1182) (c 0x3f5f3d9faffda250)
+cospiY = cospiYIn fmla (mul binary64) (λ a. a)
 
--- sin(πx) for |x| ≤ 1/16: sin(πx)/x by even powers up to 8
+-- sin(πx) for |x| ≤ 1/16: sin(πx)/x by even powers up to 8, in any arithmetic
+abbrev pub sinpiNearIn : {A : Type 0} → (A → A → A → A) → (A → A → A) → (Float → A) → A → A
+sinpiNearIn mla product own x = product x (polyeval5 mla (product x x) (own pi) (own (c 0xc014abbce625bbf2)) (own (c 0x400466bc675e116a)) (own (c 0xbfe32d2c0b62d41c)) (own (c 0x3fb501ec4497cb7d)))
+
+-- in f64
 unfoldable pub sinpiNear : Float → Float
-sinpiNear x = mul binary64 x (polyeval5 fmla (mul binary64 x x) pi (c 0xc014abbce625bbf2) (c 0x400466bc675e116a) (c 0xbfe32d2c0b62d41c) (c 0x3fb501ec4497cb7d))
+sinpiNear = sinpiNearIn fmla (mul binary64) (λ a. a)
 
--- cos(πx) for |x| ≤ 1/16: even powers up to 8, the first coefficient 1
+-- cos(πx) for |x| ≤ 1/16: even powers up to 8, the first coefficient 1, in any arithmetic
+abbrev pub cospiNearIn : {A : Type 0} → (A → A → A → A) → (A → A → A) → (Float → A) → A → A
+cospiNearIn mla product own x = polyeval5 mla (product x x) (own one) (own (c 0xc013bd3cc9be43f7)) (own (c 0x40103c1f08091fe0)) (own (c 0xbff55d3ba3d94835)) (own (c 0x3fce173c2a00e74e))
+
+-- in f64
 unfoldable pub cospiNear : Float → Float
-cospiNear x = polyeval5 fmla (mul binary64 x x) one (c 0xc013bd3cc9be43f7) (c 0x40103c1f08091fe0) (c 0xbff55d3ba3d94835) (c 0x3fce173c2a00e74e)
+cospiNear = cospiNearIn fmla (mul binary64) (λ a. a)
 
 -- sin(π (k/2 + y)), by k modulo 4
 abbrev pub sineBy : ℕ → Float → Float

@@ -5,3 +5,4 @@ pub mod Tried
 pub mod Distance
 pub mod Tangent
 pub mod Six
+pub mod Polynomials

@@ -23,9 +23,13 @@ sinX6 = ofBits binary64 0xbf2a019f70fb4d4f
 abbrev pub sinX8 : Float
 sinX8 = ofBits binary64 0x3ec718d179815e74
 
--- sin(x) for |x| ≤ π/16
+-- sin(x) for |x| ≤ π/16, in any arithmetic
+abbrev pub sinNearIn : {A : Type 0} → (A → A → A → A) → (A → A → A) → (Float → A) → A → A
+sinNearIn mla product own x = product x (polyeval5 mla (product x x) (own one) (own sinX2) (own sinX4) (own sinX6) (own sinX8))
+
+-- in f64
 abbrev pub sinNear : Float → Float
-sinNear x = mul binary64 x (polyeval5 fmla (mul binary64 x x) one sinX2 sinX4 sinX6 sinX8)
+sinNear = sinNearIn fmla (mul binary64) (λ a. a)
 
 -- cos(x) on [0, π/16], even powers up to 8, the first coefficient 1
 abbrev pub cosX2 : Float
@@ -43,9 +47,13 @@ cosX6 = ofBits binary64 0xbf56c16b2e26561a
 abbrev pub cosX8 : Float
 cosX8 = ofBits binary64 0x3ef9faa67b9da80b
 
--- cos(x) for |x| ≤ π/16
+-- cos(x) for |x| ≤ π/16, in any arithmetic
+abbrev pub cosNearIn : {A : Type 0} → (A → A → A → A) → (A → A → A) → (Float → A) → A → A
+cosNearIn mla product own x = polyeval5 mla (product x x) (own one) (own cosX2) (own cosX4) (own cosX6) (own cosX8)
+
+-- in f64
 abbrev pub cosNear : Float → Float
-cosNear x = polyeval5 fmla (mul binary64 x x) one cosX2 cosX4 cosX6 cosX8
+cosNear = cosNearIn fmla (mul binary64) (λ a. a)
 
 -- tan(x)/x on [0, π/32], even powers up to 8, the first coefficient 1
 abbrev pub tanX2 : Float
@@ -63,9 +71,13 @@ tanX6 = ofBits binary64 0x3faba180a6bbdecd
 abbrev pub tanX8 : Float
 tanX8 = ofBits binary64 0x3f969c0a88a0b71f
 
--- tan(x) for |x| ≤ π/32
+-- tan(x) for |x| ≤ π/32, in any arithmetic
+abbrev pub tanNearIn : {A : Type 0} → (A → A → A → A) → (A → A → A) → (Float → A) → A → A
+tanNearIn mla product own x = product x (polyeval5 mla (product x x) (own one) (own tanX2) (own tanX4) (own tanX6) (own tanX8))
+
+-- in f64
 abbrev pub tanNear : Float → Float
-tanNear x = mul binary64 x (polyeval5 fmla (mul binary64 x x) one tanX2 tanX4 tanX6 tanX8)
+tanNear = tanNearIn fmla (mul binary64) (λ a. a)
 
 -- the word of infinity: no finite word without its sign reaches it
 abbrev pub infinite : ℕ

@@ -1,6 +1,7 @@
 // What the six functions compute, as definitions in specs/, and what is true of them.
 ghost use mathlib.Core.Path.{_≡_};
 ghost use Rattle.formulas.specs.Tried.{Tried};
+ghost use Rattle.formulas.specs.Polynomials.{Sine-series, Cosine-series, Tangent-series, Half-sine-series, Half-cosine-series, Quarter-sine-series, Quarter-cosine-series};
 ghost use Rattle.formulas.specs.Distance.{Radian-sine, Radian-cosine, Half-turn-sine, Half-turn-cosine, Not-finite};
 ghost use Rattle.formulas.specs.Tangent.{Radian-tangent, Half-turn-tangent, Tangents-not-finite};
 
@@ -10,6 +11,19 @@ pub fn tried_values() -> u8
     ensures right { λ _. ⌜ Tried ⌝ }
 {
     11
+}
+
+// The polynomials of the six functions are near the series on the whole of their intervals.
+pub fn polynomials() -> u8
+    ensures sine { λ _. ⌜ Sine-series ⌝ }
+    ensures cosine { λ _. ⌜ Cosine-series ⌝ }
+    ensures tangent { λ _. ⌜ Tangent-series ⌝ }
+    ensures half_sine { λ _. ⌜ Half-sine-series ⌝ }
+    ensures half_cosine { λ _. ⌜ Half-cosine-series ⌝ }
+    ensures quarter_sine { λ _. ⌜ Quarter-sine-series ⌝ }
+    ensures quarter_cosine { λ _. ⌜ Quarter-cosine-series ⌝ }
+{
+    0
 }
 
 // The sines and cosines, at every word, are within half a spacing and 2^-36 of the exact ones.

@@ -193,9 +193,9 @@ finish x y z l2 l3 W f h far nz = go (lowest-bit binary32 x (W .fin) f)
         tiny-pw = record { eq = refl }
 
 -- for |x| up to 2 ^ -11 k is small
-ρ-size : Size stepsPerRadian (whole 11)
+pub per-radian : Size stepsPerRadian (whole 11)
 unfolding sizeTest
-ρ-size = size-by-test stepsPerRadian (whole 11) tt
+per-radian = size-by-test stepsPerRadian (whole 11) tt
 
 take : (k y m : Fraction) → ((k ⊕ y) ⊕ m) ⊖ (y ⊕ m) ≈ k
 unfolding same
@@ -204,7 +204,7 @@ take k y m = ring (free k ∷ free y ∷ free m ∷ []) (((var 0 :+ var 1) :+ va
 tiny-k : (w z : ℕ) (k y : Float) → Word (ofBits binary32 w) z → z ≤ 114 → FoundSmall (valueOf (ofBits binary32 w)) stepsPerRadian 55 81 k y → Size (valueOf k) (whole 1)
 unfolding leq sizeTest
 tiny-k w z k y W h F =
-    let s = size-near (F .near) (size-⊗ (within-range (ofBits binary32 w) z 114 W h) ρ-size) in
+    let s = size-near (F .near) (size-⊗ (within-range (ofBits binary32 w) z 114 W h) per-radian) in
     let m = integer (pos 0) ⊗ whole 64 in
     let n : Size m (whole 0) = size-by-test m (whole 0) tt in
     size-⊑ (by-test {a = ((pw 138 149 ⊗ whole 11) ⊕ tiny 52) ⊕ (frac 11 16 ⊕ whole 0)} {b = whole 1} tt) (size-≈ (take (valueOf k) (valueOf y) m) (size-⊕ s (size-neg (size-⊕ (F .small) n))))
