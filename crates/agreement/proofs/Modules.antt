@@ -24,6 +24,7 @@ use Rattle.record.specs.Fields.{Read, fieldAt}
 use Rattle.record.specs.Record.{Field, fields, fieldsOf, following, saying, saidMount, saidEdition, firstMount, mountOf, editionOf, mirrorSteps, mirrorAnswer, stepsUnder, answerUnder, editionSteps, editionAnswer}
 use Rattle.record.specs.Reached.{Allowed}
 use Rattle.record.proofs.Fields.{field-shorter, field-allowed}
+use Rattle.record.proofs.Openings.{nonempty}
 use Rattle.record.proofs.Replay.{fields-first, fields-none}
 use Rattle.agreement.specs.Modules.{quartersOf}
 
@@ -35,9 +36,6 @@ few-allowed (Some m) h = h
 allowed-few : (m : Option Mount) → Allowed m → quartersOf m ≤ 3
 allowed-few None h = omega arith
 allowed-few (Some m) h = h
-
-nonempty : (bytes rest : List ℕ) → length rest < length bytes → 0 < length bytes
-nonempty bytes rest h = omega arith
 
 -- the mount of the field that comes first
 pub first-refused : (s : State) (bytes : List ℕ) (c : Cause) → fieldAt s bytes ≡ Err c → (n total : ℕ) → length bytes ≤ n → firstMount (fields n s total bytes) ≡ None

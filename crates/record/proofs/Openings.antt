@@ -53,7 +53,7 @@ mount-skipped steps book at (item.Edition e) m fs h = absurd (let z : _≡_ {A =
 mount-skipped steps book at (item.Mount k) m fs h = refl
 mount-skipped steps book at (item.Put c) m fs h = absurd (let z : _≡_ {A = ℕ} 0 1 = cc in omega arith)
 
-nonempty : (bytes rest : List ℕ) → length rest < length bytes → 0 < length bytes
+pub nonempty : (bytes rest : List ℕ) → length rest < length bytes → 0 < length bytes
 nonempty bytes rest h = omega arith
 
 pub opens-mount : (bytes : List ℕ) (f : Read) (m : Mount) → fieldAt state.Mount bytes ≡ Ok f → saidMount (Ok (f .item)) ≡ Some m → Opens bytes (Some m) (f .rest) (f .state)
