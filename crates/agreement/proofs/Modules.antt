@@ -1,6 +1,5 @@
 -- The edition and the mount that a record says.
 use mathlib.Core.Path.{_≡_, refl, sym, ap, subst, _∙_}
-use mathlib.Core.Bool.{Bool, true, false}
 use mathlib.Core.List.{List, [], _∷_}
 use Prim.Native.Nat.{ℕ, _-_, _<_, _≤_}
 use native.Mathlib.Omega.{arith}
@@ -9,9 +8,6 @@ use Rattle.std.specs.declared.option.Option.{Option}
 use Rattle.std.specs.declared.option.Option.the-variants.{Some, None}
 use Rattle.std.specs.declared.result.Result.{Result}
 use Rattle.std.specs.declared.result.Result.the-variants.{Ok, Err}
-use Rattle.readers.specs.Meaning.{Steps, Reading, Keeps}
-use Rattle.readers.proofs.Editions.{radian-keeps, half-turn-keeps}
-use Rattle.readers.proofs.Mounts.{turned-keeps, mirrored-keeps}
 use Rattle.record.specs.declared.edition.Edition.{Edition}
 use Rattle.record.specs.declared.edition.Edition.the-variants as edition
 use Rattle.record.specs.declared.edition.Mount.{Mount}
@@ -21,21 +17,11 @@ use Rattle.record.specs.declared.item.Item.the-variants as item
 use Rattle.record.specs.declared.state.State.{State}
 use Rattle.record.specs.declared.state.State.the-variants as state
 use Rattle.record.specs.Fields.{Read, fieldAt}
-use Rattle.record.specs.Record.{Field, fields, fieldsOf, following, saying, saidMount, saidEdition, firstMount, mountOf, editionOf, mirrorSteps, mirrorAnswer, stepsUnder, answerUnder, editionSteps, editionAnswer}
+use Rattle.record.specs.Record.{Field, fields, fieldsOf, following, saying, saidMount, saidEdition, firstMount, mountOf, editionOf}
 use Rattle.record.specs.Reached.{Allowed}
 use Rattle.record.proofs.Fields.{field-shorter, field-allowed}
 use Rattle.record.proofs.Openings.{nonempty}
 use Rattle.record.proofs.Replay.{fields-first, fields-none}
-use Rattle.agreement.specs.Modules.{quartersOf}
-
--- few quarters are what a mount allows
-pub few-allowed : (m : Option Mount) → quartersOf m ≤ 3 → Allowed m
-few-allowed None h = tt
-few-allowed (Some m) h = h
-
-allowed-few : (m : Option Mount) → Allowed m → quartersOf m ≤ 3
-allowed-few None h = omega arith
-allowed-few (Some m) h = h
 
 -- the mount of the field that comes first
 pub first-refused : (s : State) (bytes : List ℕ) (c : Cause) → fieldAt s bytes ≡ Err c → (n total : ℕ) → length bytes ≤ n → firstMount (fields n s total bytes) ≡ None
@@ -49,8 +35,8 @@ first-says s bytes r m e h n total l =
     let f = fields-first n s total bytes (nonempty bytes (r .rest) (field-shorter s bytes r e)) l in
     ap firstMount (f .2) ∙ ap (λ q. saidMount (saying q)) e ∙ sym h
 
-pub few-said : (s : State) (bytes : List ℕ) (f : Read) (m : Option Mount) → fieldAt s bytes ≡ Ok f → m ≡ saidMount (Ok (f .item)) → quartersOf m ≤ 3
-few-said s bytes f m e h = allowed-few m (subst Allowed (sym h) (field-allowed s bytes f e))
+pub allowed-said : (s : State) (bytes : List ℕ) (f : Read) (m : Option Mount) → fieldAt s bytes ≡ Ok f → m ≡ saidMount (Ok (f .item)) → Allowed m
+allowed-said s bytes f m e h = subst Allowed (sym h) (field-allowed s bytes f e)
 
 -- what a record says of itself where its first field is refused
 pub none-said : (bytes : List ℕ) (c : Cause) → fieldAt state.Edition bytes ≡ Err c → (edition.Radians ≡ editionOf (fieldsOf bytes)) × (None ≡ mountOf (fieldsOf bytes))
@@ -71,16 +57,3 @@ both-said bytes r e m read is first =
     let whole : Result Read Cause → List Field = λ q. record { at = length bytes - length bytes; said = saying q } ∷ following q (λ r. fields (f .0) (r .state) (length bytes) (r .rest)) in
     let shown : fieldsOf bytes ≡ whole (Ok r) = f .2 ∙ ap whole read in
     (sym (ap editionOf shown ∙ ap (λ j. saidEdition (Ok j)) is), sym (ap mountOf shown ∙ first (f .0) (length bytes) (omega (arith, s, f .1))))
-
--- mirrored or not, turned or not, a reader keeps its promise
-mirror-keeps : (b : Bool) (u : Steps) (a : Reading) → Keeps u a → Keeps (mirrorSteps b u) (mirrorAnswer b a)
-mirror-keeps true u a h = mirrored-keeps u a h
-mirror-keeps false u a h = h
-
-pub under-keeps : (m : Option Mount) (steps : ℕ → Steps) (answer : ℕ → Reading) (w : ℕ) → Keeps (steps w) (answer w) → Keeps (stepsUnder m steps w) (answerUnder m answer w)
-under-keeps None steps answer w h = h
-under-keeps (Some m) steps answer w h = turned-keeps (m .quarters) (mirrorSteps (m .mirrored) (steps w)) (mirrorAnswer (m .mirrored) (answer w)) (mirror-keeps (m .mirrored) (steps w) (answer w) h)
-
-pub edition-keeps : (e : Edition) (w : ℕ) → Keeps (editionSteps e w) (editionAnswer e w)
-edition-keeps edition.Radians w = radian-keeps w
-edition-keeps edition.HalfTurns w = half-turn-keeps w

@@ -5,7 +5,6 @@ ghost use lib.ListN.{length};
 ghost use Rattle.readers.specs.Meaning.{turnedAnswer};
 ghost use Rattle.record.specs.Record.{fields, fieldsOf, firstMount, editionOf, mountOf, stepsUnder, answerUnder, editionSteps, editionAnswer};
 ghost use Rattle.record.specs.Reached.{Allowed};
-ghost use Rattle.agreement.specs.Modules.{quartersOf};
 use readers::edition::HalfTurnReader;
 use readers::edition::HalfTurns;
 use readers::edition::RadianReader;
@@ -61,7 +60,7 @@ fn read_under<R: Reader + Drop>(
 
 // The mount that the first field says, if it says one.
 fn mount_of(bytes: &[u8], state: State) -> Option<Mount>
-    ensures few { λ r. ⌜ quartersOf r ≤ 3 ⌝ }
+    ensures allowed { λ r. ⌜ Allowed r ⌝ }
     ensures first { λ r. ⌜ ((n total : ℕ) → length (now (bytes .entry)) ≤ n → firstMount (fields n state total (now (bytes .entry))) ≡ r) ⌝ }
 {
     let Ok(field) = read_field(bytes, state) else {
@@ -75,7 +74,7 @@ fn mount_of(bytes: &[u8], state: State) -> Option<Mount>
 pub struct Module {
     edition: Edition,
     mount: Option<Mount>,
-    ghost few: { quartersOf mount ≤ 3 },
+    ghost allowed: { Allowed mount },
 }
 
 impl Module {

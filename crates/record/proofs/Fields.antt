@@ -145,21 +145,21 @@ first-edition bytes f h =
 
 -- a mount that is said is allowed
 none-said : (t : Bool) (e : Edition) (q : Result Item Cause) → Allowed (saidMount q) → Allowed (saidMount (cond t (Ok (item.Edition e)) q))
-none-said true e q h = tt
+none-said true e q h = omega arith
 none-said false e q h = h
 
 mount-said : (t : Bool) (m : Mount) → (t ≡ false → m .quarters ≤ 3) → Allowed (saidMount (cond t (Err Value) (Ok (item.Mount m))))
-mount-said true m h = tt
+mount-said true m h = omega arith
 mount-said false m h = h refl
 
 item-allowed : (k : Kind) (body : List ℕ) → Allowed (saidMount (itemOf k body))
-item-allowed kind.Edition body = none-said (eqb (getD body 0 0) 5) edition.Radians _ (none-said (eqb (getD body 0 0) 6) edition.HalfTurns (Err Value) tt)
+item-allowed kind.Edition body = none-said (eqb (getD body 0 0) 5) edition.Radians _ (none-said (eqb (getD body 0 0) 6) edition.HalfTurns (Err Value) (omega arith))
 item-allowed kind.Mount body =
     mount-said (ltb 3 (getD body 0 0) || ltb 1 (getD body 1 0)) (record { quarters = getD body 0 0; mirrored = eqb (getD body 1 0) 1 })
     (λ e. ltb-false 3 (getD body 0 0) (or-parts (ltb 3 (getD body 0 0)) (ltb 1 (getD body 1 0)) e .0))
-item-allowed kind.Enter body = tt
-item-allowed kind.Withdraw body = tt
-item-allowed kind.Correct body = tt
+item-allowed kind.Enter body = omega arith
+item-allowed kind.Withdraw body = omega arith
+item-allowed kind.Correct body = omega arith
 
 pub field-allowed : (s : State) (bytes : List ℕ) (f : Read) → fieldAt s bytes ≡ Ok f → Allowed (saidMount (Ok (f .item)))
 field-allowed s bytes f e = let w = field-whole s bytes f e in subst (λ q. Allowed (saidMount q)) (w .is-item) (item-allowed (w .kind .0) (w .piece .body))

@@ -41,7 +41,7 @@ none-first n total (b ∷ bs) r e h l =
 
 pub opens-none : (bytes : List ℕ) (r : Result Read Cause) → fieldAt state.Mount bytes ≡ r → saidMount (saying r) ≡ None → Opens bytes None bytes state.Mount
 opens-none bytes r e h = record {
-  allowed = tt;
+  allowed = omega arith;
   shorter = omega arith;
   goes-on = λ n total l. record { fuel = n; enough = l; first = none-first n total bytes r e h l; same = λ steps book. refl };
 }

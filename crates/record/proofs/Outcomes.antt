@@ -245,7 +245,7 @@ mirror-keeps : (b : Bool) (o : Steps) (a : Reading) → Keeps o a → Keeps (mir
 mirror-keeps true o a k = mirrored-keeps o a k
 mirror-keeps false o a k = k
 
-under-keeps : (m : Option Mount) (e : Edition) (w : ℕ) → Keeps (stepsUnder m (editionSteps e) w) (answerUnder m (editionAnswer e) w)
+pub under-keeps : (m : Option Mount) (e : Edition) (w : ℕ) → Keeps (stepsUnder m (editionSteps e) w) (answerUnder m (editionAnswer e) w)
 under-keeps None e w = edition-keeps e w
 under-keeps (Some m) e w = turned-keeps (m .quarters) (mirrorSteps (m .mirrored) (editionSteps e w)) (mirrorAnswer (m .mirrored) (editionAnswer e w)) (mirror-keeps (m .mirrored) (editionSteps e w) (editionAnswer e w) (edition-keeps e w))
 

@@ -32,10 +32,14 @@ Follows answer rows (Ok book) (Err f) = ⊥
 Follows answer rows (Err e) (Ok x) = ⊥
 Follows answer rows (Err e) (Err f) = e ≡ f
 
+-- the quarter turns of a mount, none without one
+abbrev pub quartersOf : Option Mount → ℕ
+quartersOf None = 0
+quartersOf (Some m) = m .quarters
+
 -- a mount has 0 to 3 quarter turns
 abbrev pub Allowed : Option Mount → Type 0
-Allowed None = Unit {0}
-Allowed (Some m) = m .quarters ≤ 3
+Allowed m = quartersOf m ≤ 3
 
 -- the same for every book
 pub record Continues (n : ℕ) (total : ℕ) (bytes : List ℕ) (mount : Option Mount) (rest : List ℕ) (after : State) : Type 0 where

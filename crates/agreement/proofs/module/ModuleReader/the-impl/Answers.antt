@@ -1,5 +1,5 @@
-use Rattle.agreement.proofs.Modules.{under-keeps, edition-keeps}
+use Rattle.record.proofs.Outcomes.{under-keeps}
 use Rattle.agreement.proofs.module.ModuleReader.the-impl.Needs as need
 
 pub meaning-law : need.meaning-law
-meaning-law r w h = under-keeps (r .mount) _ _ w (edition-keeps (r .edition) w)
+meaning-law r w h = under-keeps (r .mount) (r .edition) w
