@@ -7,7 +7,7 @@ use Rattle.record.specs.declared.item.Item.TheVariants as item
 use Rattle.record.specs.declared.state.State.{State}
 use Rattle.record.specs.Fields.{Read, field_at}
 use Rattle.record.specs.Record.{fields, following, saying}
-use Rattle.record.specs.Outcome.{calling, callsIn}
+use Rattle.record.specs.Outcome.{calling, calls_in}
 use Rattle.record.proofs.Fields.{field-shorter}
 use Rattle.record.proofs.Replay.{fields-first, fields-none}
 
@@ -26,25 +26,25 @@ calling-first (item.Mount m) calls = refl
 calling-first (item.Put call) calls = refl
 
 pub calls-stop : (calls all : List Call) (s : State) (total : ℕ) (bytes : List ℕ) (c : Cause) → 0 < length bytes → field_at s bytes ≡ Err c
-    → (n : ℕ) → length bytes ≤ n → calls ++ callsIn (fields n s total bytes) ≡ all → calls ≡ all
+    → (n : ℕ) → length bytes ≤ n → calls ++ calls_in (fields n s total bytes) ≡ all → calls ≡ all
 calls-stop calls all s total bytes c there e n l h =
     let f = fields-first n s total bytes there l in
-    let g : callsIn (fields n s total bytes) ≡ [] = ap callsIn f.2 ∙ ap (λ r. calling (saying r) (callsIn (following r (λ q. fields f.0 q.state total q.rest)))) e in
+    let g : calls_in (fields n s total bytes) ≡ [] = ap calls_in f.2 ∙ ap (λ r. calling (saying r) (calls_in (following r (λ q. fields f.0 q.state total q.rest)))) e in
     sym (append-none calls) ∙ ap (λ l. calls ++ l) (sym g) ∙ h
 
 pub calls-more : (calls more all : List Call) (s : State) (total : ℕ) (bytes : List ℕ) (r : Read) → 0 < length bytes → field_at s bytes ≡ Ok r → more ≡ calls ++ calling (Ok r.item) []
-    → (n : ℕ) → length bytes ≤ n → calls ++ callsIn (fields n s total bytes) ≡ all
-    → (m : ℕ) × (length r.rest ≤ m) × (more ++ callsIn (fields m r.state total r.rest) ≡ all)
+    → (n : ℕ) → length bytes ≤ n → calls ++ calls_in (fields n s total bytes) ≡ all
+    → (m : ℕ) × (length r.rest ≤ m) × (more ++ calls_in (fields m r.state total r.rest) ≡ all)
 calls-more calls more all s total bytes r there e grown n l h =
     let f = fields-first n s total bytes there l in
-    let later : List Call = callsIn (fields f.0 r.state total r.rest) in
-    let g : callsIn (fields n s total bytes) ≡ calling (Ok r.item) later = ap callsIn f.2 ∙ ap (λ q. calling (saying q) (callsIn (following q (λ q. fields f.0 q.state total q.rest)))) e in (
+    let later : List Call = calls_in (fields f.0 r.state total r.rest) in
+    let g : calls_in (fields n s total bytes) ≡ calling (Ok r.item) later = ap calls_in f.2 ∙ ap (λ q. calling (saying q) (calls_in (following q (λ q. fields f.0 q.state total q.rest)))) e in (
       f.0,
       omega (arith, field-shorter s bytes r e, f.1),
       ap (λ l. l ++ later) grown ∙ append-append calls (calling (Ok r.item) []) later ∙ ap (λ l. calls ++ l) (sym (calling-first r.item later) ∙ sym g) ∙ h,
     )
 
 pub calls-end : (calls all : List Call) (s : State) (total : ℕ) (bytes : List ℕ) → length bytes ≡ 0
-    → (n : ℕ) → length bytes ≤ n → calls ++ callsIn (fields n s total bytes) ≡ all → calls ≡ all
+    → (n : ℕ) → length bytes ≤ n → calls ++ calls_in (fields n s total bytes) ≡ all → calls ≡ all
 calls-end calls all s total (b ∷ bs) none n l h = absurd (omega arith)
-calls-end calls all s total [] none n l h = sym (append-none calls) ∙ ap (λ l. calls ++ callsIn l) (sym (fields-none n s total)) ∙ h
+calls-end calls all s total [] none n l h = sym (append-none calls) ∙ ap (λ l. calls ++ calls_in l) (sym (fields-none n s total)) ∙ h

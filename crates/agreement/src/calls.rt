@@ -1,7 +1,7 @@
 // The calls that a record's fields say.
 ghost use Rattle.std.specs.Prelude.{◌≡◌, [], ◌++◌, IfOk, Ok, OnOk};
 ghost use Rattle.record.specs.Record.{fields_of};
-ghost use Rattle.record.specs.Outcome.{calling, callsIn};
+ghost use Rattle.record.specs.Outcome.{calling, calls_in};
 
 use record::item::{Item, read_field};
 use record::state::State;
@@ -20,7 +20,7 @@ fn push_call(calls: &mut Vec<Call>, item: Item) -> Result<(), AllocError>
 
 // In their order, up to the first field that says nothing.
 pub fn calls_of(heap: Global, bytes: &[u8]) -> Result<Vec<Call>, AllocError>
-    ensures { IfOk result (λ v. v.items ≡ callsIn (fields_of bytes.now)) }
+    ensures { IfOk result (λ v. v.items ≡ calls_in (fields_of bytes.now)) }
 {
     let mut calls = Vec::new(heap);
     let mut rest = bytes;

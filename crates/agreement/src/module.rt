@@ -1,7 +1,7 @@
 // The module that a record is of: its edition's reader, under its mount.
 ghost use Rattle.std.specs.Prelude.{◌≡◌, ℕ, ◌≤◌, length};
-ghost use Rattle.readers.specs.Meaning.{turnedAnswer};
-ghost use Rattle.record.specs.Record.{fields, fields_of, firstMount, editionOf, mountOf, stepsUnder, answerUnder, editionSteps, editionAnswer};
+ghost use Rattle.readers.specs.Meaning.{turned_answer};
+ghost use Rattle.record.specs.Record.{fields, fields_of, first_mount, edition_of, mount_of, steps_under, answer_under, edition_steps, edition_answer};
 ghost use Rattle.record.specs.Reached.{Allowed};
 ghost use Rattle.record.proofs.Outcomes.{under-keeps};
 
@@ -20,7 +20,7 @@ fn read_turned<R: Reader + Drop>(
     word: u32,
 ) -> Result<(u8, f64), ReaderFault>
     requires { quarters ≤ 3 }
-    ensures { result ≡ turnedAnswer quarters (R.Reader.answer below word) }
+    ensures { result ≡ turned_answer quarters (R.Reader.answer below word) }
 {
     match Turned::new(below, quarters) {
         Ok(mounted) => mounted.read(word),
@@ -35,7 +35,7 @@ fn read_under<R: Reader + Drop>(
     word: u32,
 ) -> Result<(u8, f64), ReaderFault>
     requires { Allowed mount }
-    ensures { result ≡ answerUnder mount (R.Reader.answer below) word }
+    ensures { result ≡ answer_under mount (R.Reader.answer below) word }
 {
     match mount {
         None => below.read(word),
@@ -52,7 +52,7 @@ fn read_under<R: Reader + Drop>(
 // The mount that the first field says, if it says one.
 fn mount_of(bytes: &[u8], state: State) -> Option<Mount>
     ensures allowed { Allowed result }
-    ensures first { (n total : ℕ) → length bytes.now ≤ n → firstMount (fields n state total bytes.now) ≡ result }
+    ensures first { (n total : ℕ) → length bytes.now ≤ n → first_mount (fields n state total bytes.now) ≡ result }
 {
     let Ok(field) = read_field(bytes, state) else {
         return None;
@@ -71,8 +71,8 @@ pub struct Module {
 impl Module {
     // The module of a record's bytes: radians if they name no edition, and no mount if they name none.
     pub fn of(bytes: &[u8]) -> Module
-        ensures edition { result.edition ≡ editionOf (fields_of bytes.now) }
-        ensures mount { result.mount ≡ mountOf (fields_of bytes.now) }
+        ensures edition { result.edition ≡ edition_of (fields_of bytes.now) }
+        ensures mount { result.mount ≡ mount_of (fields_of bytes.now) }
     {
         let Ok(first) = read_field(bytes, State::Edition) else {
             return Module {
@@ -91,9 +91,9 @@ impl Module {
 }
 
 impl Reader for Module {
-    ghost steps = { λ m w. stepsUnder m.mount (editionSteps m.edition) w };
+    ghost steps = { λ m w. steps_under m.mount (edition_steps m.edition) w };
 
-    ghost answer = { λ m w. answerUnder m.mount (editionAnswer m.edition) w };
+    ghost answer = { λ m w. answer_under m.mount (edition_answer m.edition) w };
 
     ghost meaning = { λ r w h. under-keeps r.mount r.edition w };
 

@@ -1,7 +1,7 @@
 // Two records on two sheets: what both sheets then say.
 ghost use Rattle.std.specs.Prelude.{IfOk};
 ghost use Rattle.record.specs.Record.{fields_of};
-ghost use Rattle.record.specs.Outcome.{steps_of, callsIn};
+ghost use Rattle.record.specs.Outcome.{steps_of, calls_in};
 ghost use Rattle.agreement.specs.Compared.{Compared};
 
 use crate::calls::calls_of;
@@ -36,7 +36,7 @@ fn totals_over<P: Reader + Drop, Q: Reader + Drop>(
 
 // The totals of both, each record on a sheet over its own module.
 pub fn compare(heap: Global, one: &[u8], other: &[u8]) -> Result<Pair, AllocError>
-    ensures { IfOk result (λ p. Compared (steps_of one.now) (callsIn (fields_of one.now)) (steps_of other.now) (callsIn (fields_of other.now)) p.one p.other) }
+    ensures { IfOk result (λ p. Compared (steps_of one.now) (calls_in (fields_of one.now)) (steps_of other.now) (calls_in (fields_of other.now)) p.one p.other) }
 {
     let calls = calls_of(heap, one)?;
     let others = calls_of(heap, other)?;

@@ -4,11 +4,11 @@ use Prim.Native.Nat.{ℕ, zero, suc}
 use lib.Dec.{T}
 use Rattle.exact.specs.Fraction.{Fraction, ◌≈◌, ◌⊑◌, ◌⊕◌, ◌⊗◌, ◌⊖◌, neg, whole, frac, tiny, Size, Within, leq}
 use Rattle.exact.proofs.Poly.{var, con, ◌:+◌, ◌:*◌, minus, ◌:-◌, free, same}
-use Rattle.exact.proofs.Order.{≈-refl, ≈-sym, ≈-trans, ≈→⊑, ⊑_trans, ⊕-cong, ⊗-cong, neg-cong, by-test, size-⊑, size-⊗, size-≈, triangle, within-sym, within-⊑, within-≈, within-⊕, within-neg, within-mul-right, ⊗-comm}
+use Rattle.exact.proofs.Order.{≈-refl, ≈-sym, ≈-trans, ≈→⊑, ⊑_trans, ⊕-cong, ⊗-cong, neg_cong, by-test, size-⊑, size-⊗, size-≈, triangle, within-sym, within-⊑, within-≈, within-⊕, within-neg, within-mul-right, ⊗-comm}
 use Rattle.exact.proofs.Cert.{ring}
-use Rattle.circle.specs.Series.{sinSeries, cosSeries}
-use Rattle.circle.specs.Circle.{step, quarter, left, turnsOn, Nearest, turns, nearest, exactSine, exactCosine, Sum-sine, Sum-cosine}
-use Rattle.circle.proofs.Steady.{sin-cong, cos-cong, sine-is, cosine-is, rounds, nearest-eight}
+use Rattle.circle.specs.Series.{sin_series, cos_series}
+use Rattle.circle.specs.Circle.{step, quarter, left, turns_on, Nearest, turns, nearest, exact_sine, exact_cosine, SumSine, SumCosine}
+use Rattle.circle.proofs.Steady.{sin_cong, cos_cong, sine-is, cosine-is, rounds, nearest-eight}
 use Rattle.circle.proofs.Turn.{turn-sine, turn-cosine}
 use Rattle.circle.proofs.Mirror.{sine-at-most-one, cosine-at-most-one, same-sine, same-cosine, quarter-further, half-turn, turns-sine, turns-cosine}
 
@@ -21,8 +21,8 @@ turned s c s' c' = c ⊗ c' ⊖ s ⊗ s'
 
 -- the law of sums for one v and every u
 record Adds (v e : Fraction) : Type 0 where
-  sine : (u : Fraction) → Within (exactSine (u ⊕ v)) (mixed (exactSine u) (exactCosine u) (exactSine v) (exactCosine v)) e
-  cosine : (u : Fraction) → Within (exactCosine (u ⊕ v)) (turned (exactSine u) (exactCosine u) (exactSine v) (exactCosine v)) e
+  sine : (u : Fraction) → Within (exact_sine (u ⊕ v)) (mixed (exact_sine u) (exact_cosine u) (exact_sine v) (exact_cosine v)) e
+  cosine : (u : Fraction) → Within (exact_cosine (u ⊕ v)) (turned (exact_sine u) (exact_cosine u) (exact_sine v) (exact_cosine v)) e
 
 -- ---- up to 1 step
 plain : (y : Fraction) → left y 0 0 ≈ y
@@ -36,21 +36,21 @@ first y h = record { above = ⊑_trans (by-test tt) (⊑_trans h.above (≈→�
     far : whole 8 ⊑ whole 1 → ⊥
     far k = omega (native.Mathlib.Omega.arith, k.le)
 
-sine-first : (y : Fraction) → Size y (whole 1) → exactSine y ≈ sinSeries (y ⊗ step)
+sine-first : (y : Fraction) → Size y (whole 1) → exact_sine y ≈ sin_series (y ⊗ step)
 unfolding quarter
-sine-first y h = ≈-trans (sine-is y 0 0 (first y h)) (sin-cong (⊗-cong (plain y) (≈-refl step)))
+sine-first y h = ≈-trans (sine-is y 0 0 (first y h)) (sin_cong (⊗-cong (plain y) (≈-refl step)))
 
-cosine-first : (y : Fraction) → Size y (whole 1) → exactCosine y ≈ cosSeries (y ⊗ step)
+cosine-first : (y : Fraction) → Size y (whole 1) → exact_cosine y ≈ cos_series (y ⊗ step)
 unfolding quarter
-cosine-first y h = ≈-trans (cosine-is y 0 0 (first y h)) (cos-cong (⊗-cong (plain y) (≈-refl step)))
+cosine-first y h = ≈-trans (cosine-is y 0 0 (first y h)) (cos_cong (⊗-cong (plain y) (≈-refl step)))
 
 adds_one : (y : Fraction) → Size y (whole 1) → Adds y (tiny 68)
 adds_one y h =
     let s = ≈-sym (sine-first y h) in
     let c = ≈-sym (cosine-first y h) in
     record {
-      sine = λ u. within-≈ (≈-refl (exactSine (u ⊕ y))) (⊕-cong (⊗-cong (≈-refl (exactSine u)) c) (⊗-cong (≈-refl (exactCosine u)) s)) (turn-sine u y h);
-      cosine = λ u. within-≈ (≈-refl (exactCosine (u ⊕ y))) (⊕-cong (⊗-cong (≈-refl (exactCosine u)) c) (neg-cong (⊗-cong (≈-refl (exactSine u)) s))) (turn-cosine u y h);
+      sine = λ u. within-≈ (≈-refl (exact_sine (u ⊕ y))) (⊕-cong (⊗-cong (≈-refl (exact_sine u)) c) (⊗-cong (≈-refl (exact_cosine u)) s)) (turn-sine u y h);
+      cosine = λ u. within-≈ (≈-refl (exact_cosine (u ⊕ y))) (⊕-cong (⊗-cong (≈-refl (exact_cosine u)) c) (neg_cong (⊗-cong (≈-refl (exact_sine u)) s))) (turn-cosine u y h);
     }
 
 -- ---- twice as far
@@ -92,28 +92,28 @@ twice : (v e : Fraction) → Adds v e → Adds (v ⊕ v) (whole 5 ⊗ e)
 twice v e A =
     let S = sine-at-most-one v in
     let C = cosine-at-most-one v in
-    let t = exactSine v in
-    let d = exactCosine v in
+    let t = exact_sine v in
+    let d = exact_cosine v in
     record {
-      sine = λ u. (let s = exactSine u in let c = exactCosine u in
-          within-≈ (same-sine ((u ⊕ v) ⊕ v) (u ⊕ (v ⊕ v)) (further u v)) (≈-refl (mixed s c (exactSine (v ⊕ v)) (exactCosine (v ⊕ v))))
-          (within-⊑ (gather e) (triangle (triangle (A.sine (u ⊕ v)) (within-≈ (≈-refl (mixed (exactSine (u ⊕ v)) (exactCosine (u ⊕ v)) t d)) (again-sine s c t d) (mix-sine (exactSine (u ⊕ v)) (exactCosine (u ⊕ v)) (mixed s c t d) (turned s c t d) t d e S C (A.sine u) (A.cosine u))))
-          (within-⊕ (times-left (turned t d t d) (exactCosine (v ⊕ v)) s e (sine-at-most-one u) (within-sym (A.cosine v))) (times-left (mixed t d t d) (exactSine (v ⊕ v)) c e (cosine-at-most-one u) (within-sym (A.sine v)))))));
-      cosine = λ u. (let s = exactSine u in let c = exactCosine u in
-          within-≈ (same-cosine ((u ⊕ v) ⊕ v) (u ⊕ (v ⊕ v)) (further u v)) (≈-refl (turned s c (exactSine (v ⊕ v)) (exactCosine (v ⊕ v))))
-          (within-⊑ (gather e) (triangle (triangle (A.cosine (u ⊕ v)) (within-≈ (≈-refl (turned (exactSine (u ⊕ v)) (exactCosine (u ⊕ v)) t d)) (again-cosine s c t d) (mix-cosine (exactSine (u ⊕ v)) (exactCosine (u ⊕ v)) (mixed s c t d) (turned s c t d) t d e S C (A.sine u) (A.cosine u))))
-          (within-⊕ (times-left (turned t d t d) (exactCosine (v ⊕ v)) c e (cosine-at-most-one u) (within-sym (A.cosine v))) (within-neg (times-left (mixed t d t d) (exactSine (v ⊕ v)) s e (sine-at-most-one u) (within-sym (A.sine v))))))));
+      sine = λ u. (let s = exact_sine u in let c = exact_cosine u in
+          within-≈ (same-sine ((u ⊕ v) ⊕ v) (u ⊕ (v ⊕ v)) (further u v)) (≈-refl (mixed s c (exact_sine (v ⊕ v)) (exact_cosine (v ⊕ v))))
+          (within-⊑ (gather e) (triangle (triangle (A.sine (u ⊕ v)) (within-≈ (≈-refl (mixed (exact_sine (u ⊕ v)) (exact_cosine (u ⊕ v)) t d)) (again-sine s c t d) (mix-sine (exact_sine (u ⊕ v)) (exact_cosine (u ⊕ v)) (mixed s c t d) (turned s c t d) t d e S C (A.sine u) (A.cosine u))))
+          (within-⊕ (times-left (turned t d t d) (exact_cosine (v ⊕ v)) s e (sine-at-most-one u) (within-sym (A.cosine v))) (times-left (mixed t d t d) (exact_sine (v ⊕ v)) c e (cosine-at-most-one u) (within-sym (A.sine v)))))));
+      cosine = λ u. (let s = exact_sine u in let c = exact_cosine u in
+          within-≈ (same-cosine ((u ⊕ v) ⊕ v) (u ⊕ (v ⊕ v)) (further u v)) (≈-refl (turned s c (exact_sine (v ⊕ v)) (exact_cosine (v ⊕ v))))
+          (within-⊑ (gather e) (triangle (triangle (A.cosine (u ⊕ v)) (within-≈ (≈-refl (turned (exact_sine (u ⊕ v)) (exact_cosine (u ⊕ v)) t d)) (again-cosine s c t d) (mix-cosine (exact_sine (u ⊕ v)) (exact_cosine (u ⊕ v)) (mixed s c t d) (turned s c t d) t d e S C (A.sine u) (A.cosine u))))
+          (within-⊕ (times-left (turned t d t d) (exact_cosine (v ⊕ v)) c e (cosine-at-most-one u) (within-sym (A.cosine v))) (within-neg (times-left (mixed t d t d) (exact_sine (v ⊕ v)) s e (sine-at-most-one u) (within-sym (A.sine v))))))));
     }
 
 -- ---- equal angles, larger bounds
-adds-as : (v w e : Fraction) → ((u : Fraction) → exactSine (u ⊕ v) ≈ exactSine (u ⊕ w)) → ((u : Fraction) → exactCosine (u ⊕ v) ≈ exactCosine (u ⊕ w)) → exactSine v ≈ exactSine w → exactCosine v ≈ exactCosine w → Adds v e → Adds w e
-adds-as v w e p q s c A = record {
-  sine = λ u. within-≈ (p u) (⊕-cong (⊗-cong (≈-refl (exactSine u)) c) (⊗-cong (≈-refl (exactCosine u)) s)) (A.sine u);
-  cosine = λ u. within-≈ (q u) (⊕-cong (⊗-cong (≈-refl (exactCosine u)) c) (neg-cong (⊗-cong (≈-refl (exactSine u)) s))) (A.cosine u);
+adds_as : (v w e : Fraction) → ((u : Fraction) → exact_sine (u ⊕ v) ≈ exact_sine (u ⊕ w)) → ((u : Fraction) → exact_cosine (u ⊕ v) ≈ exact_cosine (u ⊕ w)) → exact_sine v ≈ exact_sine w → exact_cosine v ≈ exact_cosine w → Adds v e → Adds w e
+adds_as v w e p q s c A = record {
+  sine = λ u. within-≈ (p u) (⊕-cong (⊗-cong (≈-refl (exact_sine u)) c) (⊗-cong (≈-refl (exact_cosine u)) s)) (A.sine u);
+  cosine = λ u. within-≈ (q u) (⊕-cong (⊗-cong (≈-refl (exact_cosine u)) c) (neg_cong (⊗-cong (≈-refl (exact_sine u)) s))) (A.cosine u);
 }
 
 adds-≈ : (v w e : Fraction) → v ≈ w → Adds v e → Adds w e
-adds-≈ v w e h A = adds-as v w e (λ u. same-sine (u ⊕ v) (u ⊕ w) (⊕-cong (≈-refl u) h)) (λ u. same-cosine (u ⊕ v) (u ⊕ w) (⊕-cong (≈-refl u) h)) (same-sine v w h) (same-cosine v w h) A
+adds-≈ v w e h A = adds_as v w e (λ u. same-sine (u ⊕ v) (u ⊕ w) (⊕-cong (≈-refl u) h)) (λ u. same-cosine (u ⊕ v) (u ⊕ w) (⊕-cong (≈-refl u) h)) (same-sine v w h) (same-cosine v w h) A
 
 adds-⊑ : (v d e : Fraction) → d ⊑ e → Adds v d → Adds v e
 adds-⊑ v d e h A = record { sine = λ u. within-⊑ h (A.sine u); cosine = λ u. within-⊑ h (A.cosine u) }
@@ -137,7 +137,7 @@ adds-eight r h =
     adds-≈ (((y ⊕ y) ⊕ (y ⊕ y)) ⊕ ((y ⊕ y) ⊕ (y ⊕ y))) r (tiny 61) (eight y r (≈-refl y)) (adds-⊑ (((y ⊕ y) ⊕ (y ⊕ y)) ⊕ ((y ⊕ y) ⊕ (y ⊕ y))) (whole 5 ⊗ (whole 5 ⊗ (whole 5 ⊗ tiny 68))) (tiny 61) (by-test tt) A)
 
 -- ---- a quarter further
-cosine-further : (v : Fraction) → exactCosine (v ⊕ whole 16) ≈ neg (exactSine v)
+cosine-further : (v : Fraction) → exact_cosine (v ⊕ whole 16) ≈ neg (exact_sine v)
 unfolding same
 cosine-further v =
     let e : (v ⊕ whole 16) ⊕ whole 16 ≈ v ⊕ whole 32 = ring (free v ∷ []) ((var 0 :+ con (whole 16)) :+ con (whole 16)) (var 0 :+ con (whole 32)) tt in
@@ -158,11 +158,11 @@ to-cosine s c t d = ring (free s ∷ free c ∷ free t ∷ free d ∷ []) (minus
 adds-quarter : (v e : Fraction) → Adds v e → Adds (v ⊕ whole 16) e
 adds-quarter v e A =
     let w = v ⊕ whole 16 in
-    let s : exactCosine v ≈ exactSine w = quarter-further v in
-    let c : neg (exactSine v) ≈ exactCosine w = ≈-sym (cosine-further v) in
+    let s : exact_cosine v ≈ exact_sine w = quarter-further v in
+    let c : neg (exact_sine v) ≈ exact_cosine w = ≈-sym (cosine-further v) in
     record {
-      sine = λ u. within-≈ (≈-trans (quarter-further (u ⊕ v)) (same-sine ((u ⊕ v) ⊕ whole 16) (u ⊕ w) (regroup u v (whole 16)))) (≈-trans (to-sine (exactSine u) (exactCosine u) (exactSine v) (exactCosine v)) (⊕-cong (⊗-cong (≈-refl (exactSine u)) c) (⊗-cong (≈-refl (exactCosine u)) s))) (A.cosine u);
-      cosine = λ u. within-≈ (≈-trans (≈-sym (cosine-further (u ⊕ v))) (same-cosine ((u ⊕ v) ⊕ whole 16) (u ⊕ w) (regroup u v (whole 16)))) (≈-trans (to-cosine (exactSine u) (exactCosine u) (exactSine v) (exactCosine v)) (⊕-cong (⊗-cong (≈-refl (exactCosine u)) c) (neg-cong (⊗-cong (≈-refl (exactSine u)) s)))) (within-neg (A.sine u));
+      sine = λ u. within-≈ (≈-trans (quarter-further (u ⊕ v)) (same-sine ((u ⊕ v) ⊕ whole 16) (u ⊕ w) (regroup u v (whole 16)))) (≈-trans (to-sine (exact_sine u) (exact_cosine u) (exact_sine v) (exact_cosine v)) (⊕-cong (⊗-cong (≈-refl (exact_sine u)) c) (⊗-cong (≈-refl (exact_cosine u)) s))) (A.cosine u);
+      cosine = λ u. within-≈ (≈-trans (≈-sym (cosine-further (u ⊕ v))) (same-cosine ((u ⊕ v) ⊕ whole 16) (u ⊕ w) (regroup u v (whole 16)))) (≈-trans (to-cosine (exact_sine u) (exact_cosine u) (exact_sine v) (exact_cosine v)) (⊕-cong (⊗-cong (≈-refl (exact_cosine u)) c) (neg_cong (⊗-cong (≈-refl (exact_sine u)) s)))) (within-neg (A.sine u));
     }
 
 one_more : (v : Fraction) (m : ℕ) → (v ⊕ whole 16 ⊗ whole m) ⊕ whole 16 ≈ v ⊕ whole 16 ⊗ whole (suc m)
@@ -189,11 +189,11 @@ adds v =
     let m = nearest v in
     let n = turns v in
     let r = left v m n in
-    let A : Adds (turnsOn v n) (tiny 61) = adds-≈ (r ⊕ whole 16 ⊗ whole m) (turnsOn v n) (tiny 61) (back (turnsOn v n) (whole 16 ⊗ whole m)) (adds-quarters r (tiny 61) m (adds-eight r (nearest-eight (rounds v)))) in
-    adds-as (turnsOn v n) v (tiny 61) (λ u. ≈-trans (same-sine (u ⊕ turnsOn v n) (turnsOn (u ⊕ v) n) (≈-sym (regroup u v (whole 64 ⊗ whole n)))) (turns-sine (u ⊕ v) n)) (λ u. ≈-trans (same-cosine (u ⊕ turnsOn v n) (turnsOn (u ⊕ v) n) (≈-sym (regroup u v (whole 64 ⊗ whole n)))) (turns-cosine (u ⊕ v) n)) (turns-sine v n) (turns-cosine v n) A
+    let A : Adds (turns_on v n) (tiny 61) = adds-≈ (r ⊕ whole 16 ⊗ whole m) (turns_on v n) (tiny 61) (back (turns_on v n) (whole 16 ⊗ whole m)) (adds-quarters r (tiny 61) m (adds-eight r (nearest-eight (rounds v)))) in
+    adds_as (turns_on v n) v (tiny 61) (λ u. ≈-trans (same-sine (u ⊕ turns_on v n) (turns_on (u ⊕ v) n) (≈-sym (regroup u v (whole 64 ⊗ whole n)))) (turns-sine (u ⊕ v) n)) (λ u. ≈-trans (same-cosine (u ⊕ turns_on v n) (turns_on (u ⊕ v) n) (≈-sym (regroup u v (whole 64 ⊗ whole n)))) (turns-cosine (u ⊕ v) n)) (turns-sine v n) (turns-cosine v n) A
 
-pub sum-sine : Sum-sine
+pub sum-sine : SumSine
 sum-sine u v = (adds v).sine u
 
-pub sum-cosine : Sum-cosine
+pub sum-cosine : SumCosine
 sum-cosine u v = (adds v).cosine u

@@ -13,7 +13,7 @@ use Rattle.exact.specs.Value.{value_of, integer, signed}
 use Rattle.exact.specs.Multiple.{dif, pw, Multiple}
 use Rattle.exact.specs.Rounded.{Rounded}
 pub use Rattle.exact.specs.Laws.{Away}
-use Rattle.exact.proofs.Order.{≡-≈, size-≈, ≈-sym, ≈-refl, ≈-trans, ⊕-cong, ⊗-cong, ⊗-one, neg-cong, within-≈, within→size, size-⊑, within-sym}
+use Rattle.exact.proofs.Order.{≡-≈, size-≈, ≈-sym, ≈-refl, ≈-trans, ⊕-cong, ⊗-cong, ⊗-one, neg_cong, within-≈, within→size, size-⊑, within-sym}
 use Rattle.exact.proofs.Closest.{split-pow}
 use Rattle.exact.proofs.Rounding.{signed-value, sized, rounded-exact, sub-rounded}
 use Rattle.exact.proofs.Powers.{Same}
@@ -184,7 +184,7 @@ away-at f s m e P =
     let v = signed-value r s h 1 (zero-lt-suc 0) (away-exact f s m e P) in
     let k = half-near n d (down_pos e) in
     let w = value-signed s m e in
-    let a : value_of (fin s m e) ⊖ value_of r ≈ signed s n d (down_pos e) ⊖ signed s h 1 (zero-lt-suc 0) = ⊕-cong w (neg-cong v.1) in
+    let a : value_of (fin s m e) ⊖ value_of r ≈ signed s n d (down_pos e) ⊖ signed s h 1 (zero-lt-suc 0) = ⊕-cong w (neg_cong v.1) in
     record {
       fin = v.0;
       integral = multiple-≈ (≈-sym v.1) (one-times s h);

@@ -48,12 +48,12 @@ pub closest-le : (n q u : ℕ) → 0 < u → n ≤ q * u → closest n u ≤ q
 closest-le n q u U h = le_trans (closest_mono n u q 1 U (pow_pos 0) (le_trans (le_of_eq (mul-one n)) h)) (le_of_eq (closest-one q))
 
 -- ---- the grid
-abbrev pub gridOf : ℕ → ℕ → ℕ → ℕ
-gridOf p n d = kept p n d * 2 ^ drop p n d
+abbrev pub grid_of : ℕ → ℕ → ℕ → ℕ
+grid_of p n d = kept p n d * 2 ^ drop p n d
 
 pub record Gridded (p n d j : ℕ) : Type 0 where
-  pub near : Near (gridOf p n d * d) n (d * 2 ^ (j - p))
-  pub small : gridOf p n d ≤ 2 ^ j
+  pub near : Near (grid_of p n d * d) n (d * 2 ^ (j - p))
+  pub small : grid_of p n d ≤ 2 ^ j
 
 pub split-pow : (j k : ℕ) → k ≤ j → 2 ^ (j - k) * 2 ^ k ≡ 2 ^ j
 split-pow j k h = sym (pow-add 2 (j - k) k) ∙ ap (λ (x : ℕ). 2 ^ x) (back j k h)
@@ -83,7 +83,7 @@ strict p n d j D h =
     let K' : k ≤ j = omega arith in
     let w : d * 2 ^ k ≤ d * 2 ^ (j - p) = mul-le-mul_left d (pow_mono K) in
     record {
-      near = near-mono (gridOf p n d * d) n (d * 2 ^ k) (d * 2 ^ (j - p)) w (near-at n d k D);
+      near = near-mono (grid_of p n d * d) n (d * 2 ^ k) (d * 2 ^ (j - p)) w (near-at n d k D);
       small = small_at n n d j k D K' (le_of_lt h);
     }
 
@@ -96,7 +96,7 @@ level p d j P D =
     let u = d * 2 ^ k in
     let f : 2 ^ j * d ≡ 2 ^ (j - k) * u = sym (regroup (2 ^ (j - k)) d k ∙ ap (λ z. z * d) (split-pow j k K)) in
     let c : closest (2 ^ j * d) u ≡ 2 ^ (j - k) = ap (λ z. closest z u) f ∙ closest-whole (2 ^ (j - k)) u (mul-pos D (pow_pos k)) in
-    let g : gridOf p (2 ^ j * d) d ≡ 2 ^ j = ap (λ z. z * 2 ^ k) c ∙ split-pow j k K in
+    let g : grid_of p (2 ^ j * d) d ≡ 2 ^ j = ap (λ z. z * 2 ^ k) c ∙ split-pow j k K in
     record { near = subst (λ z. Near (z * d) (2 ^ j * d) (d * 2 ^ (j - p))) (sym g) (near-self (2 ^ j * d) (d * 2 ^ (j - p))); small = le_of_eq g }
 
 pub gridded : (p n d j : ℕ) → 2 ≤ p → 0 < d → n ≤ 2 ^ j * d → Gridded p n d j

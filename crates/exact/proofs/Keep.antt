@@ -12,15 +12,15 @@ use Rattle.exact.specs.Fraction.{Fraction, ◌⊑◌, ◌≈◌}
 use Rattle.exact.specs.Value.{value_of, signed}
 use Rattle.exact.specs.Multiple.{pw, Multiple, Apart}
 use Rattle.exact.specs.Rounded.{Rounded}
-use Rattle.exact.proofs.Order.{⊑_trans, ≈→⊑, ≈-sym, ≈-refl, ≈-trans, ⊗-cong, neg-cong}
-use Rattle.exact.proofs.Closest.{gridOf, split-pow, closest-one, closest-whole}
+use Rattle.exact.proofs.Order.{⊑_trans, ≈→⊑, ≈-sym, ≈-refl, ≈-trans, ⊗-cong, neg_cong}
+use Rattle.exact.proofs.Closest.{grid_of, split-pow, closest-one, closest-whole}
 use Rattle.exact.proofs.Rounding.{signed-value, representable}
 use Rattle.exact.proofs.Multiple.{signed_of, times, multiple-≈}
 
 -- ---- about natural numbers
 pub record Kept (p n d j : ℕ) : Type 0 where
   pub g : ℕ
-  pub is : gridOf p n d ≡ g * 2 ^ j
+  pub is : grid_of p n d ≡ g * 2 ^ j
 
 regroup : (q a d k j : ℕ) → a * k ≡ j → q * j * d ≡ (q * a) * (d * k)
 regroup q a d k j e = rw (← e) (omega arith)
@@ -42,10 +42,10 @@ keeps p n d j q D e = go (leb (drop p n d) j) (leb→le (drop p n d) j) (nleb→
 closest-ge : (n q u : ℕ) → 0 < u → q * u ≤ n → q ≤ closest n u
 closest-ge n q u U h = le_trans (le_of_eq (sym (closest-one q))) (closest_mono q 1 n u (zero-lt-suc 0) U (le_trans h (le_of_eq (sym (mul-one n)))))
 
-reaches : (p n d j : ℕ) → 0 < p → 0 < d → 2 ^ j * d ≤ n → 2 ^ j ≤ gridOf p n d
+reaches : (p n d j : ℕ) → 0 < p → 0 < d → 2 ^ j * d ≤ n → 2 ^ j ≤ grid_of p n d
 reaches p n d j P D h = go (leb (drop p n d) j) (leb→le (drop p n d) j) (nleb→lt (drop p n d) j)
   where
-    go : (t : Bool) → (T t → drop p n d ≤ j) → (T (not t) → j < drop p n d) → 2 ^ j ≤ gridOf p n d
+    go : (t : Bool) → (T t → drop p n d ≤ j) → (T (not t) → j < drop p n d) → 2 ^ j ≤ grid_of p n d
     go true f g =
         let k = drop p n d in
         let s = split-pow j k (f tt) in
@@ -75,11 +75,11 @@ under f s q k = go (ltb (q * 2 ^ k) (2 ^ (low f + suc (emax f)))) (ltb→lt (q *
     go true h t = h tt
     go false h t = absurd t
 
-round-grid : (f : Format) (s : Bool) (num d : ℕ) → T (finite (round f s num d)) → HasValue (round f s num d) s (gridOf (prec f) (num * 2 ^ low f) d) (2 ^ low f)
+round-grid : (f : Format) (s : Bool) (num d : ℕ) → T (finite (round f s num d)) → HasValue (round f s num d) s (grid_of (prec f) (num * 2 ^ low f) d) (2 ^ low f)
 round-grid f s num d t =
     let q = kept (prec f) (num * 2 ^ low f) d in
     let k = drop (prec f) (num * 2 ^ low f) d in
-    subst (λ (z : Float). HasValue z s (gridOf (prec f) (num * 2 ^ low f) d) (2 ^ low f)) (sym (round_is f s num d)) (units_val f s q k (under f s q k (subst (λ z. T (finite z)) (round_is f s num d) t)))
+    subst (λ (z : Float). HasValue z s (grid_of (prec f) (num * 2 ^ low f) d) (2 ^ low f)) (sym (round_is f s num d)) (units_val f s q k (under f s q k (subst (λ z. T (finite z)) (round_is f s num d) t)))
 
 -- ---- over fractions
 pub signed-grid : (s : Bool) (m u d : ℕ) (ok : 0 < d) → Multiple (signed s (m * u) d ok) (record { plus = u; minus = 0; den = d; ok = ok })
@@ -92,13 +92,13 @@ rounded-keeps f r a j R t M =
     let v : a ≈ signed g.sign (g.size * 2 ^ j) (2 ^ low f) (pow_pos (low f)) = ≈-trans M.is (≈-trans (⊗-cong g.of (≈-refl (pw j (low f)))) (times g.sign g.size (2 ^ j) (2 ^ low f) (pow_pos (low f)))) in
     let e : R.num * 2 ^ low f ≡ g.size * 2 ^ j * R.over = representable R.sign g.sign R.num R.over (g.size * 2 ^ j) (2 ^ low f) R.ok (pow_pos (low f)) (≈-trans R.of v) in
     let k = keeps (prec f) (R.num * 2 ^ low f) R.over j g.size R.ok e in
-    let w = signed-value (round f R.sign R.num R.over) R.sign (gridOf (prec f) (R.num * 2 ^ low f) R.over) (2 ^ low f) (pow_pos (low f)) (round-grid f R.sign R.num R.over (subst (λ z. T (finite z)) R.is t)) in
+    let w = signed-value (round f R.sign R.num R.over) R.sign (grid_of (prec f) (R.num * 2 ^ low f) R.over) (2 ^ low f) (pow_pos (low f)) (round-grid f R.sign R.num R.over (subst (λ z. T (finite z)) R.is t)) in
     subst (λ z. Multiple (value_of z) (pw j (low f))) (sym R.is)
     (multiple-≈ (≈-sym w.1) (subst (λ n. Multiple (signed R.sign n (2 ^ low f) (pow_pos (low f))) (pw j (low f))) (sym k.is) (signed-grid R.sign k.g (2 ^ j) (2 ^ low f) (pow_pos (low f)))))
 
 pub apart-≈ : {a b c : Fraction} → a ≈ b → Apart a c → Apart b c
 apart-≈ e (inl h) = inl (⊑_trans h (≈→⊑ e))
-apart-≈ e (inr h) = inr (⊑_trans h (≈→⊑ (neg-cong e)))
+apart-≈ e (inr h) = inr (⊑_trans h (≈→⊑ (neg_cong e)))
 
 pub apart-⊑ : {a c d : Fraction} → d ⊑ c → Apart a c → Apart a d
 apart-⊑ e (inl h) = inl (⊑_trans e h)
@@ -119,5 +119,5 @@ rounded-apart f r a j R t A =
     let n = R.num * 2 ^ low f in
     let b = at_least R.sign R.num R.over (2 ^ j) (2 ^ low f) R.ok (pow_pos (low f)) (apart-≈ (≈-sym R.of) A) in
     let g = reaches (prec f) n R.over j (two-le_pos (prec f) (two f)) R.ok b in
-    let w = signed-value (round f R.sign R.num R.over) R.sign (gridOf (prec f) n R.over) (2 ^ low f) (pow_pos (low f)) (round-grid f R.sign R.num R.over (subst (λ z. T (finite z)) R.is t)) in
-    subst (λ z. Apart (value_of z) (pw j (low f))) (sym R.is) (apart-≈ (≈-sym w.1) (far R.sign (gridOf (prec f) n R.over) (2 ^ j) (2 ^ low f) (pow_pos (low f)) (mul-le-mul_right (2 ^ low f) g)))
+    let w = signed-value (round f R.sign R.num R.over) R.sign (grid_of (prec f) n R.over) (2 ^ low f) (pow_pos (low f)) (round-grid f R.sign R.num R.over (subst (λ z. T (finite z)) R.is t)) in
+    subst (λ z. Apart (value_of z) (pw j (low f))) (sym R.is) (apart-≈ (≈-sym w.1) (far R.sign (grid_of (prec f) n R.over) (2 ^ j) (2 ^ low f) (pow_pos (low f)) (mul-le-mul_right (2 ^ low f) g)))

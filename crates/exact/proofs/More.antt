@@ -7,20 +7,20 @@ use Rattle.std.specs.Float.{float_mul_add}
 use Rattle.exact.specs.Fraction.{Fraction, ◌≈◌, ◌⊕◌, ◌⊗◌, whole}
 use Rattle.exact.specs.Rounded.{Rounded}
 use Rattle.exact.specs.Value.{value_of, signed}
-use Rattle.exact.specs.Laws.{Division-rounds, Quotient, Quotients}
+use Rattle.exact.specs.Laws.{DivisionRounds, Quotient, Quotients}
 use Rattle.exact.proofs.Order.{≈-refl, ≈-trans, ⊗-cong, ⊗-assoc, ⊗-one}
 use Rattle.exact.proofs.Rounding.{sum-rounded, div-rounded, nonzero}
 
 -- ---- x * y + z rounded once
-pub fused-rounded : (f : Format) (x y z : Float) → T (finite x) → T (finite y) → T (finite z) → Rounded f (float_mul_add f x y z) (value_of x ⊗ value_of y ⊕ value_of z)
+pub fused_rounded : (f : Format) (x y z : Float) → T (finite x) → T (finite y) → T (finite z) → Rounded f (float_mul_add f x y z) (value_of x ⊗ value_of y ⊕ value_of z)
 unfolding float_mul_add
-fused-rounded f nan y z p q r = absurd p
-fused-rounded f (inf s) y z p q r = absurd p
-fused-rounded f (fin s m e) nan z p q r = absurd q
-fused-rounded f (fin s m e) (inf t) z p q r = absurd q
-fused-rounded f (fin s m e) (fin t n d) nan p q r = absurd r
-fused-rounded f (fin s m e) (fin t n d) (inf u) p q r = absurd r
-fused-rounded f (fin s m e) (fin t n d) (fin u k g) p q r =
+fused_rounded f nan y z p q r = absurd p
+fused_rounded f (inf s) y z p q r = absurd p
+fused_rounded f (fin s m e) nan z p q r = absurd q
+fused_rounded f (fin s m e) (inf t) z p q r = absurd q
+fused_rounded f (fin s m e) (fin t n d) nan p q r = absurd r
+fused_rounded f (fin s m e) (fin t n d) (inf u) p q r = absurd r
+fused_rounded f (fin s m e) (fin t n d) (fin u k g) p q r =
     sum-rounded f (unlike s t) (m * up e * (n * up d) * down g) u (k * up g * (down e * down d)) (down e * down d * down g) K (value_of (fin s m e) ⊗ value_of (fin t n d) ⊕ value_of (fin u k g)) (go s t u)
   where
     K : 0 < down e * down d * down g
@@ -53,17 +53,17 @@ pub quotient-rounded : (f : Format) (x y : Float) → T (finite x) → (q : T (n
 quotient-rounded f x y p q = div-rounded f x y (value_of x ⊗ inverse y q) p q (≈-trans (⊗-assoc (value_of x) (inverse y q) (value_of y)) (≈-trans (⊗-cong (≈-refl (value_of x)) (inverse-is y q)) (⊗-one (value_of x))))
 
 -- ---- a divisor that is not zero
-pub not-zero : (y : Float) → T (finite y) → (value_of y ≈ whole 0 → ⊥) → T (nonzero y)
-not-zero nan p h = absurd p
-not-zero (inf s) p h = absurd p
-not-zero (fin false zero e) p h = absurd (h (record { eq = omega arith }))
-not-zero (fin true zero e) p h = absurd (h (record { eq = omega arith }))
-not-zero (fin s (suc m) e) p h = lt→ltb 0 (suc m) (zero-lt-suc m)
+pub not_zero : (y : Float) → T (finite y) → (value_of y ≈ whole 0 → ⊥) → T (nonzero y)
+not_zero nan p h = absurd p
+not_zero (inf s) p h = absurd p
+not_zero (fin false zero e) p h = absurd (h (record { eq = omega arith }))
+not_zero (fin true zero e) p h = absurd (h (record { eq = omega arith }))
+not_zero (fin s (suc m) e) p h = lt→ltb 0 (suc m) (zero-lt-suc m)
 
-pub division-rounds : Division-rounds
-division-rounds f x y v p q h e = div-rounded f x y v p (not-zero y q h) e
+pub division_rounds : DivisionRounds
+division_rounds f x y v p q h e = div-rounded f x y v p (not_zero y q h) e
 
 pub quotients : Quotients
 quotients x y q h =
-    let n = not-zero y q h in
+    let n = not_zero y q h in
     record { v = value_of x ⊗ inverse y n; is = ≈-trans (⊗-assoc (value_of x) (inverse y n) (value_of y)) (≈-trans (⊗-cong (≈-refl (value_of x)) (inverse-is y n)) (⊗-one (value_of x))) }

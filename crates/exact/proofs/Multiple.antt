@@ -7,7 +7,7 @@ use Rattle.exact.specs.Fraction.{Fraction, ◌⊑◌, ◌≈◌, ◌⊕◌, ◌�
 use Rattle.exact.specs.Value.{signed}
 use Rattle.exact.specs.Multiple.{dif, pw, Multiple, Smaller}
 use Rattle.exact.specs.Rounded.{Rounded}
-use Rattle.exact.proofs.Order.{≈-sym, ≈-refl, ≈-trans, ⊕-cong, ⊗-cong, ⊗-assoc, neg-cong, neg-⊗, distrib, size-≈}
+use Rattle.exact.proofs.Order.{≈-sym, ≈-refl, ≈-trans, ⊕-cong, ⊗-cong, ⊗-assoc, neg_cong, neg-⊗, distrib, size-≈}
 use Rattle.exact.proofs.Poly.{var, ◌:*◌, same, free}
 use Rattle.exact.proofs.Cert.{ring}
 use Rattle.exact.proofs.Rounding.{rounded-exact}
@@ -34,7 +34,7 @@ multiple-⊕ {a} {b} {u} h k = record {
 }
 
 pub multiple-neg : {a u : Fraction} → Multiple a u → Multiple (neg a) u
-multiple-neg {a} {u} h = record { p = h.m; m = h.p; is = ≈-trans (neg-cong h.is) (neg-⊗ (dif h.p h.m) u) }
+multiple-neg {a} {u} h = record { p = h.m; m = h.p; is = ≈-trans (neg_cong h.is) (neg-⊗ (dif h.p h.m) u) }
 
 pub multiple-⊖ : {a b u : Fraction} → Multiple a u → Multiple b u → Multiple (a ⊖ b) u
 multiple-⊖ h k = multiple-⊕ h (multiple-neg k)

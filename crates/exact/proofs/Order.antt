@@ -4,7 +4,7 @@ use native.Mathlib.Nat.{le_dest}
 use native.Mathlib.Decide.{dec_le}
 use lib.Dec.{nleb→lt}
 use lib.Ieee.Fits.{and_l, and_r}
-use Rattle.exact.specs.Fraction.{Fraction, ◌⊑◌, ◌≈◌, ◌⊕◌, ◌⊗◌, ◌⊖◌, neg, whole, tiny, Size, Within, abs, leq, sizeTest, withinTest}
+use Rattle.exact.specs.Fraction.{Fraction, ◌⊑◌, ◌≈◌, ◌⊕◌, ◌⊗◌, ◌⊖◌, neg, whole, tiny, Size, Within, abs, leq, size_test, within_test}
 
 -- ---- ⊑ is a preorder, ≈ its equality
 core-trans : (ap am ad bp bm bd cp cm cd : ℕ) → 0 < bd → ap * bd + bm * ad ≤ bp * ad + am * bd → bp * cd + cm * bd ≤ cp * bd + bm * cd → ap * cd + cm * ad ≤ cp * ad + am * cd
@@ -95,8 +95,8 @@ pub ⊕-zero : (a : Fraction) → a ⊕ whole 0 ≈ a
 pub neg-mono : {a b : Fraction} → a ⊑ b → neg b ⊑ neg a
 neg-mono {a} {b} h = record { le = omega (arith, h.le) }
 
-pub neg-cong : {a b : Fraction} → a ≈ b → neg a ≈ neg b
-neg-cong h = ⊑-antisym (neg-mono (≈→⊒ h)) (neg-mono (≈→⊑ h))
+pub neg_cong : {a b : Fraction} → a ≈ b → neg a ≈ neg b
+neg_cong h = ⊑-antisym (neg-mono (≈→⊒ h)) (neg-mono (≈→⊑ h))
 
 pub ⊕-neg : (a : Fraction) → a ⊕ neg a ≈ whole 0
 ⊕-neg a = record { eq = omega arith }
@@ -142,8 +142,8 @@ pub ⊗-mono : {a b : Fraction} (c : Fraction) → whole 0 ⊑ c → a ⊑ b →
     let k = le_dest q in
     record { le = core-mul a.plus a.minus a.den b.plus b.minus b.den c.plus c.minus c.den k.0 k.1 (mul-le-mul_right (k.0 * c.den) h.le) }
 
-pub ⊗-mono-right : {a b : Fraction} (c : Fraction) → whole 0 ⊑ c → a ⊑ b → c ⊗ a ⊑ c ⊗ b
-⊗-mono-right {a} {b} c p h = ⊑_trans (≈→⊑ (⊗-comm c a)) (⊑_trans (⊗-mono c p h) (≈→⊑ (⊗-comm b c)))
+pub ⊗-mono_right : {a b : Fraction} (c : Fraction) → whole 0 ⊑ c → a ⊑ b → c ⊗ a ⊑ c ⊗ b
+⊗-mono_right {a} {b} c p h = ⊑_trans (≈→⊑ (⊗-comm c a)) (⊑_trans (⊗-mono c p h) (≈→⊑ (⊗-comm b c)))
 
 pub ⊗-left : {a b : Fraction} (c : Fraction) → a ≈ b → a ⊗ c ≈ b ⊗ c
 ⊗-left {a} {b} c h = record { eq = omega (arith, ap (λ z. z * (c.plus * c.den)) h.eq, ap (λ z. z * (c.minus * c.den)) h.eq) }
@@ -259,13 +259,13 @@ abs-below a c h = elim (signs a) [ inl p ↦ ⊑_trans (record { le = omega (ari
     abs-at-minus a p = let q : a.plus ≤ a.minus = nonneg⁻ p in let e : a.plus - a.minus + (a.minus - a.plus) + a.plus ≡ a.minus = omega arith in omega (arith, ap (λ z. z * a.den) e)
 
 -- closed fractions: `size-by-test tt` under `unfolding sizeTest`
-pub size-by-test : (a c : Fraction) → T (sizeTest a c) → Size a c
-unfolding sizeTest
+pub size-by-test : (a c : Fraction) → T (size_test a c) → Size a c
+unfolding size_test
 size-by-test a c t = record { below = by-test (and_r (leq (neg c) a) (leq a c) t); above = by-test (and_l (leq (neg c) a) (leq a c) t) }
 
 -- ---- distances
-pub within-by-test : (a b c : Fraction) → T (withinTest a b c) → Within a b c
-unfolding withinTest
+pub within-by-test : (a b c : Fraction) → T (within_test a b c) → Within a b c
+unfolding within_test
 within-by-test a b c t = record { below = by-test (and_l (leq a (b ⊕ c)) (leq b (a ⊕ c)) t); above = by-test (and_r (leq a (b ⊕ c)) (leq b (a ⊕ c)) t) }
 
 pub within-neg : {a b e : Fraction} → Within a b e → Within (neg a) (neg b) e

@@ -12,9 +12,9 @@ use lib.Ieee.Order.{drop, kept}
 use lib.Ieee.Scale.{finite}
 use Rattle.std.specs.Float.{round_to_format}
 use Rattle.exact.specs.Fraction.{Fraction, ◌≈◌, ◌⊕◌, ◌⊗◌, ◌⊖◌, neg, whole, Size, Within}
-use Rattle.exact.specs.Rounded.{Rounded, place, half, errorOf, in_range, units}
+use Rattle.exact.specs.Rounded.{Rounded, place, half, error_of, in_range, units}
 use Rattle.exact.specs.Value.{value_of, signed, Good}
-use Rattle.exact.proofs.Closest.{gridOf, gridded}
+use Rattle.exact.proofs.Closest.{grid_of, gridded}
 use Rattle.exact.proofs.Order.{⊑_trans, ≈→⊑, ≈→⊒, ≈-sym, ≈-refl, ≈-trans, within-≈, ⊕-cong}
 
 -- ---- a value as a signed fraction
@@ -37,20 +37,20 @@ pub close : (s : Bool) (g num d l w h : ℕ) (ok : 0 < d) (lok : 0 < l) (hok : 0
 close false g num d l w h ok lok hok e a b = record { below = record { le = rw e (omega (arith, a)) }; above = record { le = rw e (omega (arith, b)) } }
 close true g num d l w h ok lok hok e a b = record { below = record { le = rw e (omega (arith, b)) }; above = record { le = rw e (omega (arith, a)) } }
 
-pub round-has : (f : Format) (s : Bool) (num d : ℕ) → gridOf (prec f) (num * 2 ^ low f) d < 2 ^ (low f + suc (emax f)) → HasValue (round f s num d) s (gridOf (prec f) (num * 2 ^ low f) d) (2 ^ low f)
-round-has f s num d h = subst (λ (z : Float). HasValue z s (gridOf (prec f) (num * 2 ^ low f) d) (2 ^ low f)) (sym (round_is f s num d)) (units_val f s (kept (prec f) (num * 2 ^ low f) d) (drop (prec f) (num * 2 ^ low f) d) h)
+pub round-has : (f : Format) (s : Bool) (num d : ℕ) → grid_of (prec f) (num * 2 ^ low f) d < 2 ^ (low f + suc (emax f)) → HasValue (round f s num d) s (grid_of (prec f) (num * 2 ^ low f) d) (2 ^ low f)
+round-has f s num d h = subst (λ (z : Float). HasValue z s (grid_of (prec f) (num * 2 ^ low f) d) (2 ^ low f)) (sym (round_is f s num d)) (units_val f s (kept (prec f) (num * 2 ^ low f) d) (drop (prec f) (num * 2 ^ low f) d) h)
 
 pub round-near : (f : Format) (s : Bool) (num d j : ℕ) (ok : 0 < d) → num * 2 ^ low f ≤ 2 ^ j * d → j < low f + suc (emax f)
     → Good (round f s num d) (signed s num d ok) (half f j)
 round-near f s num d j ok h J =
     let n = num * 2 ^ low f in
     let g = gridded (prec f) n d j (two f) ok h in
-    let v = signed-value (round f s num d) s (gridOf (prec f) n d) (2 ^ low f) (pow_pos (low f)) (round-has f s num d (lt_of_le_of_lt g.small (pow-lt J))) in
+    let v = signed-value (round f s num d) s (grid_of (prec f) n d) (2 ^ low f) (pow_pos (low f)) (round-has f s num d (lt_of_le_of_lt g.small (pow-lt J))) in
     record {
       fin = v.0;
       near =
           within-≈ (≈-sym v.1) (≈-refl (signed s num d ok))
-          (close s (gridOf (prec f) n d) num d (2 ^ low f) (2 ^ (j - prec f)) (2 ^ suc (low f)) ok (pow_pos (low f)) (pow_pos (suc (low f))) (pow-suc 2 (low f))
+          (close s (grid_of (prec f) n d) num d (2 ^ low f) (2 ^ (j - prec f)) (2 ^ suc (low f)) ok (pow_pos (low f)) (pow_pos (suc (low f))) (pow-suc 2 (low f))
           (mul-le-mul_right (2 ^ low f) g.near.0) (mul-le-mul_right (2 ^ low f) g.near.1));
     }
 
@@ -63,8 +63,8 @@ pub round-held : (f : Format) (s : Bool) (num d j : ℕ) → 0 < d → num * 2 ^
 round-held f s num d j ok h J =
     let n = num * 2 ^ low f in
     let g = gridded (prec f) n d j (two f) ok h in
-    let v = signed-value (round f s num d) s (gridOf (prec f) n d) (2 ^ low f) (pow_pos (low f)) (round-has f s num d (lt_of_le_of_lt g.small (pow-lt J))) in
-    let z = flat s (gridOf (prec f) n d) (2 ^ low f) (2 ^ j) (pow_pos (low f)) (mul-le-mul_right (2 ^ low f) g.small) in
+    let v = signed-value (round f s num d) s (grid_of (prec f) n d) (2 ^ low f) (pow_pos (low f)) (round-has f s num d (lt_of_le_of_lt g.small (pow-lt J))) in
+    let z = flat s (grid_of (prec f) n d) (2 ^ low f) (2 ^ j) (pow_pos (low f)) (mul-le-mul_right (2 ^ low f) g.small) in
     record { below = ⊑_trans (≈→⊑ v.1) z.below; above = ⊑_trans z.above (≈→⊒ v.1) }
 
 -- ---- from a bound to a place
@@ -101,11 +101,11 @@ pub sized : (s : Bool) (num d : ℕ) (ok : 0 < d) (b : Fraction) → Size (signe
 sized false num d ok b h = omega (arith, h.below.le)
 sized true num d ok b h = omega (arith, h.above.le)
 
-pub rounded-near : (f : Format) (r : Float) (a b : Fraction) → Rounded f r a → Size a b → T (in_range f b) → Good r a (errorOf f b)
+pub rounded-near : (f : Format) (r : Float) (a b : Fraction) → Rounded f r a → Size a b → T (in_range f b) → Good r a (error_of f b)
 rounded-near f r a b R h t =
     let z : Size (signed R.sign R.num R.over R.ok) b = record { below = ⊑_trans (≈→⊑ R.of) h.below; above = ⊑_trans h.above (≈→⊒ R.of) } in
     let g = round-near f R.sign R.num R.over (place f b) R.ok (placed f R.num R.over b (sized R.sign R.num R.over R.ok b z)) (ltb→lt (place f b) (low f + suc (emax f)) t) in
-    subst (λ x. Good x a (errorOf f b)) (sym R.is) (record { fin = g.fin; near = within-≈ (≈-refl (value_of (round f R.sign R.num R.over))) R.of g.near })
+    subst (λ x. Good x a (error_of f b)) (sym R.is) (record { fin = g.fin; near = within-≈ (≈-refl (value_of (round f R.sign R.num R.over))) R.of g.near })
 
 pub rounded-held : (f : Format) (r : Float) (a b : Fraction) → Rounded f r a → Size a b → T (in_range f b) → Size (value_of r) (units f (place f b))
 rounded-held f r a b R h t =
@@ -196,12 +196,12 @@ pub sub-rounded : (f : Format) (x y : Float) → T (finite x) → T (finite y) �
 unfolding sub
 sub-rounded f x y p q = rounded-of (⊕-cong (≈-refl (value_of x)) (value-neg y)) (add-rounded f x (negate y) p (finite-neg y q))
 
-pub nearestIn-rounded : (f : Format) (x : Float) → T (finite x) → Rounded f (round_to_format f x) (value_of x)
+pub nearest_in-rounded : (f : Format) (x : Float) → T (finite x) → Rounded f (round_to_format f x) (value_of x)
 unfolding round_to_format
-nearestIn-rounded f nan p = absurd p
-nearestIn-rounded f (inf s) p = absurd p
-nearestIn-rounded f (fin true m e) p = round-rounded f true (m * up e) (down e) (down_pos e)
-nearestIn-rounded f (fin false m e) p = round-rounded f false (m * up e) (down e) (down_pos e)
+nearest_in-rounded f nan p = absurd p
+nearest_in-rounded f (inf s) p = absurd p
+nearest_in-rounded f (fin true m e) p = round-rounded f true (m * up e) (down e) (down_pos e)
+nearest_in-rounded f (fin false m e) p = round-rounded f false (m * up e) (down e) (down_pos e)
 
 -- x / y, for a y that is not zero: the fraction v with v * y = x
 abbrev pub nonzero : Float → Bool

@@ -3,7 +3,7 @@ use Rattle.std.specs.Prelude.{◌⊎◌}
 use Rattle.exact.specs.Fraction.{Fraction, ◌≈◌, ◌⊑◌, ◌⊕◌, ◌⊗◌, ◌⊖◌, neg, whole, abs, Size, Within}
 
 -- sums and products in any order, 0 and 1, and products of sums
-pub record Sums-and-products : Type 0 where
+pub record SumsAndProducts : Type 0 where
   pub add_comm : (a b : Fraction) → a ⊕ b ≈ b ⊕ a
   pub add_assoc : (a b c : Fraction) → (a ⊕ b) ⊕ c ≈ a ⊕ (b ⊕ c)
   pub add-zero : (a : Fraction) → a ⊕ whole 0 ≈ a
@@ -37,49 +37,49 @@ abbrev pub Triangle : Type 0
 Triangle = (a b c x y : Fraction) → Within a b x → Within b c y → Within a c (x ⊕ y)
 
 -- distances of sums
-abbrev pub Sums-within : Type 0
-Sums-within = (a b c d x y : Fraction) → Within a b x → Within c d y → Within (a ⊕ c) (b ⊕ d) (x ⊕ y)
+abbrev pub SumsWithin : Type 0
+SumsWithin = (a b c d x y : Fraction) → Within a b x → Within c d y → Within (a ⊕ c) (b ⊕ d) (x ⊕ y)
 
 -- sizes of sums
-abbrev pub Sums-sized : Type 0
-Sums-sized = (a b c d : Fraction) → Size a c → Size b d → Size (a ⊕ b) (c ⊕ d)
+abbrev pub SumsSized : Type 0
+SumsSized = (a b c d : Fraction) → Size a c → Size b d → Size (a ⊕ b) (c ⊕ d)
 
 -- distances of products
-abbrev pub Products-within : Type 0
-Products-within = (a b c d x y A B : Fraction) → Within a b x → Within c d y → Size b A → Size c B → Within (a ⊗ c) (b ⊗ d) (x ⊗ B ⊕ y ⊗ A)
+abbrev pub ProductsWithin : Type 0
+ProductsWithin = (a b c d x y A B : Fraction) → Within a b x → Within c d y → Size b A → Size c B → Within (a ⊗ c) (b ⊗ d) (x ⊗ B ⊕ y ⊗ A)
 
 -- sizes of products
-abbrev pub Products-sized : Type 0
-Products-sized = (a b c d : Fraction) → Size a c → Size b d → Size (a ⊗ b) (c ⊗ d)
+abbrev pub ProductsSized : Type 0
+ProductsSized = (a b c d : Fraction) → Size a c → Size b d → Size (a ⊗ b) (c ⊗ d)
 
 -- both sides times c
-abbrev pub Scaled-within : Type 0
-Scaled-within = (a b c x C : Fraction) → Within a b x → Size c C → Within (a ⊗ c) (b ⊗ c) (x ⊗ C)
+abbrev pub ScaledWithin : Type 0
+ScaledWithin = (a b c x C : Fraction) → Within a b x → Size c C → Within (a ⊗ c) (b ⊗ c) (x ⊗ C)
 
 -- a larger bound holds too
 abbrev pub Wider : Type 0
 Wider = (a b c d : Fraction) → c ⊑ d → (Within a b c → Within a b d) × (Size a c → Size a d)
 
 -- a change of sign on both sides
-abbrev pub Signs-within : Type 0
-Signs-within = (a b c : Fraction) → (Within a b c → Within (neg a) (neg b) c) × (Size a c → Size (neg a) c)
+abbrev pub SignsWithin : Type 0
+SignsWithin = (a b c : Fraction) → (Within a b c → Within (neg a) (neg b) c) × (Size a c → Size (neg a) c)
 
 -- distances go both ways
-abbrev pub Turned-within : Type 0
-Turned-within = (a b c : Fraction) → Within a b c → Within b a c
+abbrev pub TurnedWithin : Type 0
+TurnedWithin = (a b c : Fraction) → Within a b c → Within b a c
 
 -- equal fractions are as near
-abbrev pub Equal-within : Type 0
-Equal-within = (a b c d e : Fraction) → a ≈ b → c ≈ d → (Within a c e → Within b d e) × (Size a e → Size b e)
+abbrev pub EqualWithin : Type 0
+EqualWithin = (a b c d e : Fraction) → a ≈ b → c ≈ d → (Within a c e → Within b d e) × (Size a e → Size b e)
 
 -- what is near b is hardly larger than b
-abbrev pub Size-near : Type 0
-Size-near = (a b c d : Fraction) → Within a b c → Size b d → Size a (d ⊕ c)
+abbrev pub SizeNear : Type 0
+SizeNear = (a b c d : Fraction) → Within a b c → Size b d → Size a (d ⊕ c)
 
 -- a distance is the size of the difference
-abbrev pub Within-is-size : Type 0
-Within-is-size = (a b c : Fraction) → (Within a b c → Size (a ⊖ b) c) × (Size (a ⊖ b) c → Within a b c)
+abbrev pub WithinIsSize : Type 0
+WithinIsSize = (a b c : Fraction) → (Within a b c → Size (a ⊖ b) c) × (Size (a ⊖ b) c → Within a b c)
 
 -- the absolute value is the least bound of the size
-abbrev pub Least-bound : Type 0
-Least-bound = (a : Fraction) → Size a (abs a) × ((c : Fraction) → Size a c → abs a ⊑ c)
+abbrev pub LeastBound : Type 0
+LeastBound = (a : Fraction) → Size a (abs a) × ((c : Fraction) → Size a c → abs a ⊑ c)

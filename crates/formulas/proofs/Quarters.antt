@@ -4,24 +4,24 @@ use lib.Count.{count_trailing_zeros}
 use lib.Ieee.{Float, nan, inf, fin, up, down, of_bits, of_fields, odd, eq, neg as negate}
 use lib.Ieee.Fits.{and_l}
 use lib.Ieee.Scale.{finite}
-use Rattle.exact.specs.Fraction.{Fraction, ◌≈◌, ◌⊑◌, ◌⊕◌, ◌⊗◌, ◌⊖◌, neg, whole, frac, tiny, Size, leq, sizeTest}
+use Rattle.exact.specs.Fraction.{Fraction, ◌≈◌, ◌⊑◌, ◌⊕◌, ◌⊗◌, ◌⊖◌, neg, whole, frac, tiny, Size, leq, size_test}
 use Rattle.exact.specs.Value.{value_of, integer, Good, Held}
 use Rattle.exact.specs.Multiple.{Multiple}
-use Rattle.exact.proofs.Order.{by-test, ≈-refl, ≈-sym, ≈-trans, ⊕-cong, ⊗-cong, neg-cong, one-⊗, zero-⊗, neg-⊗, ⊗-comm, size-neg, size-≈, size-⊑, size-⊗, size-by-test, triangle, within-⊑, within-≈, within-neg, within-sym, within-refl}
+use Rattle.exact.proofs.Order.{by-test, ≈-refl, ≈-sym, ≈-trans, ⊕-cong, ⊗-cong, neg_cong, one-⊗, zero-⊗, neg-⊗, ⊗-comm, size-neg, size-≈, size-⊑, size-⊗, size-by-test, triangle, within-⊑, within-≈, within-neg, within-sym, within-refl}
 use Rattle.exact.proofs.Poly.{var, con, ◌:+◌, ◌:*◌, ◌:-◌, free, same}
 use Rattle.exact.proofs.Cert.{ring}
 use Rattle.exact.proofs.Multiple.{multiple-unit, multiple-⊗, multiple-⊕}
 use Rattle.exact.proofs.Rounding.{finite-neg, value-neg}
-use Rattle.circle.specs.Series.{sinSeries, cosSeries}
-use Rattle.circle.specs.Circle.{step, quarter, exactSine, exactCosine, Alike}
-use Rattle.circle.proofs.Steady.{sin-cong, cos-cong}
-use Rattle.circle.proofs.Mirror.{sin-neg, alike-sine, alike-cosine}
-use Rattle.reducers.specs.Exact.{modTurn, QuarterReduced}
-use Rattle.reducers.proofs.Turns.{modTurn-turns, turns-alike}
+use Rattle.circle.specs.Series.{sin_series, cos_series}
+use Rattle.circle.specs.Circle.{step, quarter, exact_sine, exact_cosine, Alike}
+use Rattle.circle.proofs.Steady.{sin_cong, cos_cong}
+use Rattle.circle.proofs.Mirror.{sin_neg, alike-sine, alike-cosine}
+use Rattle.reducers.specs.Exact.{mod_turn, QuarterReduced}
+use Rattle.reducers.proofs.Turns.{mod_turn-turns, turns-alike}
 use Rattle.formulas.specs.Words.{zero64}
-use Rattle.formulas.specs.HalfTurns.{sinpiY, cospiY, sineBy, cosineBy}
+use Rattle.formulas.specs.HalfTurns.{sinpi_y, cospi_y, sine_by, cosine_by}
 use Rattle.formulas.proofs.Narrowed.{short}
-use Rattle.formulas.proofs.Angles.{quartersOn, halfTurns, half-angle, sine-quarters, cosine-quarters}
+use Rattle.formulas.proofs.Angles.{quarters_on, half_turns, half-angle, sine-quarters, cosine-quarters}
 use Rattle.formulas.proofs.Near.{piece, quarter-sine-near, quarter-cosine-near}
 
 -- ---- whole turns aside
@@ -31,7 +31,7 @@ turns-of n = record { p = n; m = 0; is = ⊗-comm (whole 64) (whole n) }
 rejoined : (X K J i q Y : Fraction) → Y ≈ X ⊖ K ⊗ frac 1 2 → J ≈ whole 4 ⊗ q ⊕ i → (whole 16 ⊗ i ⊕ whole 32 ⊗ Y) ⊕ (whole 16 ⊗ (K ⊖ J) ⊕ whole 64 ⊗ q) ≈ whole 32 ⊗ X
 unfolding same
 rejoined X K J i q Y e f =
-    ≈-trans (⊕-cong (⊕-cong (≈-refl (whole 16 ⊗ i)) (⊗-cong (≈-refl (whole 32)) e)) (⊕-cong (⊗-cong (≈-refl (whole 16)) (⊕-cong (≈-refl K) (neg-cong f))) (≈-refl (whole 64 ⊗ q))))
+    ≈-trans (⊕-cong (⊕-cong (≈-refl (whole 16 ⊗ i)) (⊗-cong (≈-refl (whole 32)) e)) (⊕-cong (⊗-cong (≈-refl (whole 16)) (⊕-cong (≈-refl K) (neg_cong f))) (≈-refl (whole 64 ⊗ q))))
     (ring (free X ∷ free K ∷ free i ∷ free q ∷ [])
     ((con (whole 16) :* var 2 :+ con (whole 32) :* (var 0 :- var 1 :* con (frac 1 2))) :+ (con (whole 16) :* (var 1 :- (con (whole 4) :* var 3 :+ var 2)) :+ con (whole 64) :* var 3))
     (con (whole 32) :* var 0) tt)
@@ -39,13 +39,13 @@ rejoined X K J i q Y e f =
 by-four : (j : ℕ) → whole j ≈ whole 4 ⊗ whole (j / 4) ⊕ whole (j % 4)
 by-four j = record { eq = omega arith }
 
-quarter-turns : (k : ℤ) → Multiple (whole 16 ⊗ (integer k ⊖ whole (modTurn k))) (whole 64)
-quarter-turns k = multiple-unit (one-⊗ (whole 64)) (multiple-⊗ {a = whole 16} {u = whole 1} (record { p = 16; m = 0; is = record { eq = refl } }) (modTurn-turns k))
+quarter-turns : (k : ℤ) → Multiple (whole 16 ⊗ (integer k ⊖ whole (mod_turn k))) (whole 64)
+quarter-turns k = multiple-unit (one-⊗ (whole 64)) (multiple-⊗ {a = whole 16} {u = whole 1} (record { p = 16; m = 0; is = record { eq = refl } }) (mod_turn-turns k))
 
-quarters-alike : (X Y : Fraction) (k : ℤ) → Y ≈ X ⊖ integer k ⊗ frac 1 2 → Alike (quartersOn (modTurn k % 4) (whole 32 ⊗ Y)) (whole 32 ⊗ X) (whole 0)
+quarters-alike : (X Y : Fraction) (k : ℤ) → Y ≈ X ⊖ integer k ⊗ frac 1 2 → Alike (quarters_on (mod_turn k % 4) (whole 32 ⊗ Y)) (whole 32 ⊗ X) (whole 0)
 quarters-alike X Y k e =
-    let j = modTurn k in
-    turns-alike (quartersOn (j % 4) (whole 32 ⊗ Y)) (whole 32 ⊗ X) (whole 0) (whole 16 ⊗ (integer k ⊖ whole j) ⊕ whole 64 ⊗ whole (j / 4)) (multiple-⊕ (quarter-turns k) (turns-of (j / 4)))
+    let j = mod_turn k in
+    turns-alike (quarters_on (j % 4) (whole 32 ⊗ Y)) (whole 32 ⊗ X) (whole 0) (whole 16 ⊗ (integer k ⊖ whole j) ⊕ whole 64 ⊗ whole (j / 4)) (multiple-⊕ (quarter-turns k) (turns-of (j / 4)))
     (within-refl (rejoined X (integer k) (whole j) (whole (j % 4)) (whole (j / 4)) Y e (by-four j)))
 
 -- ---- the two polynomials with either sign
@@ -55,11 +55,11 @@ good-neg r v e g = record { fin = finite-neg r g.fin; near = within-≈ (≈-sym
 held-neg : (y : Float) (b : Fraction) → Held y b → Held (negate y) b
 held-neg y b H = record { fin = finite-neg y H.fin; size = size-≈ (≈-sym (value-neg y)) (size-neg H.size) }
 
-half-neg : (y : Float) → halfTurns (value_of (negate y)) ≈ neg (halfTurns (value_of y))
+half-neg : (y : Float) → half_turns (value_of (negate y)) ≈ neg (half_turns (value_of y))
 half-neg y = ≈-trans (⊗-cong (value-neg y) (≈-refl (whole 32 ⊗ step))) (≈-sym (neg-⊗ (value_of y) (whole 32 ⊗ step)))
 
-zero-series : sinSeries (whole 0) ≈ whole 0
-unfolding sinSeries
+zero-series : sin_series (whole 0) ≈ whole 0
+unfolding sin_series
 zero-series = record { eq = refl }
 
 zero-value : value_of zero64 ≈ neg (whole 0)
@@ -88,36 +88,36 @@ module _ (y : Float) (H : Held y (frac 1 4)) where
   abbrev r : Fraction
   r = whole 32 ⊗ value_of y
 
-  plus-sine : Good (sinpiY y) (sinSeries (r ⊗ step)) piece
-  plus-sine = let g = quarter-sine-near y H in record { fin = g.fin; near = within-≈ (≈-refl (value_of (sinpiY y))) (sin-cong (≈-sym (half-angle (value_of y)))) g.near }
+  plus-sine : Good (sinpi_y y) (sin_series (r ⊗ step)) piece
+  plus-sine = let g = quarter-sine-near y H in record { fin = g.fin; near = within-≈ (≈-refl (value_of (sinpi_y y))) (sin_cong (≈-sym (half-angle (value_of y)))) g.near }
 
-  plus-cosine : Good (cospiY y) (cosSeries (r ⊗ step)) piece
-  plus-cosine = let g = quarter-cosine-near y H in record { fin = g.fin; near = within-≈ (≈-refl (value_of (cospiY y))) (cos-cong (≈-sym (half-angle (value_of y)))) g.near }
+  plus-cosine : Good (cospi_y y) (cos_series (r ⊗ step)) piece
+  plus-cosine = let g = quarter-cosine-near y H in record { fin = g.fin; near = within-≈ (≈-refl (value_of (cospi_y y))) (cos_cong (≈-sym (half-angle (value_of y)))) g.near }
 
-  opposite : sinSeries (halfTurns (value_of (negate y))) ≈ neg (sinSeries (r ⊗ step))
-  opposite = ≈-trans (sin-cong (half-neg y)) (≈-trans (sin-neg (halfTurns (value_of y))) (neg-cong (sin-cong (≈-sym (half-angle (value_of y))))))
+  opposite : sin_series (half_turns (value_of (negate y))) ≈ neg (sin_series (r ⊗ step))
+  opposite = ≈-trans (sin_cong (half-neg y)) (≈-trans (sin_neg (half_turns (value_of y))) (neg_cong (sin_cong (≈-sym (half-angle (value_of y))))))
 
-  minus-sine : Good (sinpiY (negate y)) (neg (sinSeries (r ⊗ step))) piece
-  minus-sine = let g = quarter-sine-near (negate y) (held-neg y (frac 1 4) H) in record { fin = g.fin; near = within-≈ (≈-refl (value_of (sinpiY (negate y)))) opposite g.near }
+  minus-sine : Good (sinpi_y (negate y)) (neg (sin_series (r ⊗ step))) piece
+  minus-sine = let g = quarter-sine-near (negate y) (held-neg y (frac 1 4) H) in record { fin = g.fin; near = within-≈ (≈-refl (value_of (sinpi_y (negate y)))) opposite g.near }
 
-  minus-cosine : Good (negate (cospiY y)) (neg (cosSeries (r ⊗ step))) piece
-  minus-cosine = good-neg (cospiY y) (cosSeries (r ⊗ step)) piece plus-cosine
+  minus-cosine : Good (negate (cospi_y y)) (neg (cos_series (r ⊗ step))) piece
+  minus-cosine = good-neg (cospi_y y) (cos_series (r ⊗ step)) piece plus-cosine
 
-  at_zero : value_of y ≈ whole 0 → Good zero64 (neg (sinSeries (r ⊗ step))) piece
+  at_zero : value_of y ≈ whole 0 → Good zero64 (neg (sin_series (r ⊗ step))) piece
   unfolding leq
   at_zero e =
-      let a : halfTurns (value_of y) ≈ whole 0 = ≈-trans (⊗-cong e (≈-refl (whole 32 ⊗ step))) (zero-⊗ (whole 32 ⊗ step)) in
-      let b : sinSeries (r ⊗ step) ≈ whole 0 = ≈-trans (sin-cong (≈-trans (half-angle (value_of y)) a)) zero-series in
-      record { fin = zero-finite; near = within-⊑ (by-test {a = whole 0} {b = piece} tt) (within-refl (≈-trans zero-value (neg-cong (≈-sym b)))) }
+      let a : half_turns (value_of y) ≈ whole 0 = ≈-trans (⊗-cong e (≈-refl (whole 32 ⊗ step))) (zero-⊗ (whole 32 ⊗ step)) in
+      let b : sin_series (r ⊗ step) ≈ whole 0 = ≈-trans (sin_cong (≈-trans (half-angle (value_of y)) a)) zero-series in
+      record { fin = zero-finite; near = within-⊑ (by-test {a = whole 0} {b = piece} tt) (within-refl (≈-trans zero-value (neg_cong (≈-sym b)))) }
 
-  minus-sine-or-zero : Good (cond (eq y zero64) zero64 (sinpiY (negate y))) (neg (sinSeries (r ⊗ step))) piece
+  minus-sine-or-zero : Good (cond (eq y zero64) zero64 (sinpi_y (negate y))) (neg (sin_series (r ⊗ step))) piece
   minus-sine-or-zero = go (eq y zero64) (λ t. at_zero (is_zero y H.fin t))
     where
-      go : (t : Bool) → (T t → Good zero64 (neg (sinSeries (r ⊗ step))) piece) → Good (cond t zero64 (sinpiY (negate y))) (neg (sinSeries (r ⊗ step))) piece
+      go : (t : Bool) → (T t → Good zero64 (neg (sin_series (r ⊗ step))) piece) → Good (cond t zero64 (sinpi_y (negate y))) (neg (sin_series (r ⊗ step))) piece
       go true f = f tt
       go false f = minus-sine
 
-  sine-by : (i : ℕ) → i < 4 → Good (sineBy i y) (quarter i (r ⊗ step)) piece
+  sine-by : (i : ℕ) → i < 4 → Good (sine_by i y) (quarter i (r ⊗ step)) piece
   unfolding quarter
   sine-by zero h = plus-sine
   sine-by (suc zero) h = plus-cosine
@@ -125,7 +125,7 @@ module _ (y : Float) (H : Held y (frac 1 4)) where
   sine-by (suc (suc (suc zero))) h = minus-cosine
   sine-by (suc (suc (suc (suc i)))) h = absurd (omega arith)
 
-  cosine-by : (i : ℕ) → i < 4 → Good (cosineBy i y) (quarter (suc i) (r ⊗ step)) piece
+  cosine-by : (i : ℕ) → i < 4 → Good (cosine_by i y) (quarter (suc i) (r ⊗ step)) piece
   unfolding quarter
   cosine-by zero h = plus-cosine
   cosine-by (suc zero) h = minus-sine-or-zero
@@ -134,7 +134,7 @@ module _ (y : Float) (H : Held y (frac 1 4)) where
   cosine-by (suc (suc (suc (suc i)))) h = absurd (omega arith)
 
   eight : Size r (whole 8)
-  unfolding leq sizeTest
+  unfolding leq size_test
   eight = size-⊑ (by-test {a = whole 32 ⊗ frac 1 4} {b = whole 8} tt) (size-⊗ (size-by-test (whole 32) (whole 32) tt) H.size)
 
 -- ---- together
@@ -149,16 +149,16 @@ module _ (x y : Float) (k : ℤ) (R : QuarterReduced x y k) where
   held : Held y (frac 1 4)
   held = record { fin = R.fin; size = R.small }
 
-  pub sine-quarterly : Good (sineBy (modTurn k % 4) y) (exactSine (whole 32 ⊗ value_of x)) short
+  pub sine-quarterly : Good (sine_by (mod_turn k % 4) y) (exact_sine (whole 32 ⊗ value_of x)) short
   sine-quarterly =
-      let i = modTurn k % 4 in
+      let i = mod_turn k % 4 in
       let l : i < 4 = omega arith in
       let g = sine-by y held i l in
-      record { fin = g.fin; near = within-⊑ quarterly-short (triangle (triangle g.near (within-sym (sine-quarters i (whole 32 ⊗ value_of y) (eight y held)))) (alike-sine (quartersOn i (whole 32 ⊗ value_of y)) (whole 32 ⊗ value_of x) (whole 0) (quarters-alike (value_of x) (value_of y) k R.exact))) }
+      record { fin = g.fin; near = within-⊑ quarterly-short (triangle (triangle g.near (within-sym (sine-quarters i (whole 32 ⊗ value_of y) (eight y held)))) (alike-sine (quarters_on i (whole 32 ⊗ value_of y)) (whole 32 ⊗ value_of x) (whole 0) (quarters-alike (value_of x) (value_of y) k R.exact))) }
 
-  pub cosine-quarterly : Good (cosineBy (modTurn k % 4) y) (exactCosine (whole 32 ⊗ value_of x)) short
+  pub cosine-quarterly : Good (cosine_by (mod_turn k % 4) y) (exact_cosine (whole 32 ⊗ value_of x)) short
   cosine-quarterly =
-      let i = modTurn k % 4 in
+      let i = mod_turn k % 4 in
       let l : i < 4 = omega arith in
       let g = cosine-by y held i l in
-      record { fin = g.fin; near = within-⊑ quarterly-short (triangle (triangle g.near (within-sym (cosine-quarters i (whole 32 ⊗ value_of y) (eight y held)))) (alike-cosine (quartersOn i (whole 32 ⊗ value_of y)) (whole 32 ⊗ value_of x) (whole 0) (quarters-alike (value_of x) (value_of y) k R.exact))) }
+      record { fin = g.fin; near = within-⊑ quarterly-short (triangle (triangle g.near (within-sym (cosine-quarters i (whole 32 ⊗ value_of y) (eight y held)))) (alike-cosine (quarters_on i (whole 32 ⊗ value_of y)) (whole 32 ⊗ value_of x) (whole 0) (quarters-alike (value_of x) (value_of y) k R.exact))) }

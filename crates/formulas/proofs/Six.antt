@@ -3,18 +3,18 @@ use Rattle.formulas.specs.Six.{Six}
 use Rattle.formulas.proofs.Radians.{radian-sine, radian-cosine}
 use Rattle.formulas.proofs.HalfTurns.{half-turn-sine, half-turn-cosine}
 use Rattle.formulas.proofs.Special.{not_finite}
-use Rattle.formulas.proofs.TangentRadians.{radian-tangent}
-use Rattle.formulas.proofs.TangentHalfTurns.{half-turn-tangent}
-use Rattle.formulas.proofs.TangentSpecial.{tangents-not-finite}
+use Rattle.formulas.proofs.TangentRadians.{radian_tangent}
+use Rattle.formulas.proofs.TangentHalfTurns.{half_turn_tangent}
+use Rattle.formulas.proofs.TangentSpecial.{tangents_not_finite}
 
 pub six : Six
 six = record {
   sinf = radian-sine;
   cosf = radian-cosine;
-  tanf = radian-tangent;
+  tanf = radian_tangent;
   sinpif = half-turn-sine;
   cospif = half-turn-cosine;
-  tanpif = half-turn-tangent;
-  sines-not-finite = not_finite;
-  tangents-not-finite = tangents-not-finite;
+  tanpif = half_turn_tangent;
+  sines_not_finite = not_finite;
+  tangents_not_finite = tangents_not_finite;
 }

@@ -6,22 +6,22 @@ use lib.Count.{count_trailing_zeros}
 use lib.Ieee.{Float, nan, inf, fin, binary64, of_bits, of_fields, odd, size, up, down, add, mul, div, neg as negate}
 use lib.Ieee.Fits.{up_pos}
 use lib.Ieee.Scale.{finite}
-use Rattle.exact.specs.Fraction.{Fraction, ◌≈◌, ◌⊑◌, ◌⊕◌, ◌⊗◌, ◌⊖◌, neg, whole, frac, tiny, abs, Size, Within, leq, sizeTest}
+use Rattle.exact.specs.Fraction.{Fraction, ◌≈◌, ◌⊑◌, ◌⊕◌, ◌⊗◌, ◌⊖◌, neg, whole, frac, tiny, abs, Size, Within, leq, size_test}
 use Rattle.exact.specs.Value.{value_of, signed, Good, Held}
-use Rattle.exact.specs.Rounded.{Rounded, in_range, errorOf}
+use Rattle.exact.specs.Rounded.{Rounded, in_range, error_of}
 use Rattle.exact.proofs.Order.{by-test, ≈-refl, ≈-sym, ≈-trans, ≈→⊑, ≈→⊒, ⊑_trans, ⊕-cong, ⊗-cong, ⊗-assoc, ⊗-one, ⊗-comm, nonneg, nonneg⁻, diff, abs-size, size-⊑, size-≈, size-⊕, size-⊗, size-neg, size-near, size-by-test, size→within, within→size, triangle, within-⊑, within-≈, within-⊕, within-sym, within-refl, within-mul-right}
-use Rattle.exact.proofs.More.{not-zero}
+use Rattle.exact.proofs.More.{not_zero}
 use Rattle.exact.proofs.Poly.{Expr, var, con, ◌:+◌, ◌:*◌, ◌:-◌, minus, free, Env, same, small, le, hyp, num, ◌+c◌, ◌*c◌}
 use Rattle.exact.proofs.Cert.{ring, prove}
 use Rattle.exact.proofs.Bound.{bound}
 use Rattle.exact.proofs.Rounding.{rounded-near, add-rounded, mul-rounded, div-rounded, nonzero, finite-neg, value-neg}
-use Rattle.circle.specs.Series.{sinSeries, cosSeries}
-use Rattle.circle.specs.Circle.{step, exactSine, exactCosine, Alike}
-use Rattle.circle.proofs.Steady.{sin-one, cos-one}
+use Rattle.circle.specs.Series.{sin_series, cos_series}
+use Rattle.circle.specs.Circle.{step, exact_sine, exact_cosine, Alike}
+use Rattle.circle.proofs.Steady.{sin_one, cos_one}
 use Rattle.circle.proofs.Turn.{turn-sine, turn-cosine}
 use Rattle.circle.proofs.Mirror.{sine-at-most-one, cosine-at-most-one, alike-sine, alike-cosine}
-use Rattle.table.specs.Tangents.{tableTangent, TangentNear, tanY, tangent64}
-use Rattle.table.proofs.Tangents.{table-tangent}
+use Rattle.table.specs.Tangents.{table_tangent, TangentNear, tan_of_y, tangent64}
+use Rattle.table.proofs.Tangents.{table_tangent_lem}
 use Rattle.formulas.specs.Words.{one, fmla}
 use Rattle.formulas.proofs.TangentNarrowed.{abs-pos, room_for}
 use Rattle.formulas.proofs.TangentNear.{one-step, step-angle, steps-near, steps-held}
@@ -81,7 +81,7 @@ stirred = by-test {a = (whole 1024 ⊗ tiny 60) ⊗ step ⊕ tiny 70} {b = tiny 
 
 -- the distance before narrowing, with room for the angle
 abbrev pub Ahead : Fraction → Fraction → Type 0
-Ahead q v = Within (q ⊗ exactCosine v) (exactSine v) (tiny 26 ⊕ abs q ⊗ tiny 37)
+Ahead q v = Within (q ⊗ exact_cosine v) (exact_sine v) (tiny 26 ⊕ abs q ⊗ tiny 37)
 
 room : (b : Fraction) → whole 0 ⊑ b → (tiny 52 ⊗ b ⊕ (tiny 26 ⊕ b ⊗ tiny 37)) ⊕ tiny 52 ⊑ tiny 25 ⊕ b ⊗ tiny 36
 unfolding same
@@ -89,13 +89,13 @@ room b h =
     prove (free b ∷ []) (le (con (whole 0)) (var 0) ∷ []) (h, tt) ((con (tiny 52) :* var 0 :+ (con (tiny 26) :+ var 0 :* con (tiny 37))) :+ con (tiny 52)) (con (tiny 25) :+ var 0 :* con (tiny 36))
     (num 32767 (2 ^ 52) *c hyp 0 +c num 67108863 (2 ^ 52)) tt
 
-pub moved : (q v u : Fraction) → Alike v u (whole 1024 ⊗ tiny 60) → Ahead q v → Within (q ⊗ exactCosine u) (exactSine u) (tiny 25 ⊕ abs q ⊗ tiny 36)
+pub moved : (q v u : Fraction) → Alike v u (whole 1024 ⊗ tiny 60) → Ahead q v → Within (q ⊗ exact_cosine u) (exact_sine u) (tiny 25 ⊕ abs q ⊗ tiny 36)
 moved q v u A w =
     let c = whole 1024 ⊗ tiny 60 in
-    let C = exactCosine u in
-    let D = exactCosine v in
+    let C = exact_cosine u in
+    let D = exact_cosine v in
     let a : Within C D (tiny 52) = within-sym (within-⊑ stirred (alike-cosine v u c A)) in
-    let b : Within (exactSine v) (exactSine u) (tiny 52) = within-⊑ stirred (alike-sine v u c A) in
+    let b : Within (exact_sine v) (exact_sine u) (tiny 52) = within-⊑ stirred (alike-sine v u c A) in
     within-⊑ (room (abs q) (abs-pos q)) (triangle (triangle (within-≈ (⊗-comm C q) (⊗-comm D q) (within-mul-right a (abs-size q))) w) b)
 
 -- ---- the parts of an angle k + y, and the tangents t of y and x of k, rounded sum n and rest d
@@ -115,25 +115,25 @@ rest-small : (t x c s k j C S h i n d e f : Fraction) → T (small (errors t x c
 unfolding small leq
 rest-small t x c s k j C S h i n d e f = tt
 
-abbrev hE : Expr
-hE = var 0 :* var 2 :- var 3
+abbrev h_e : Expr
+h_e = var 0 :* var 2 :- var 3
 
-abbrev iE : Expr
-iE = var 1 :* var 4 :- var 5
+abbrev i_e : Expr
+i_e = var 1 :* var 4 :- var 5
 
-abbrev nE : Expr
-nE = var 8 :- (var 0 :+ var 1)
+abbrev n_e : Expr
+n_e = var 8 :- (var 0 :+ var 1)
 
-abbrev dE : Expr
-dE = var 9 :- (con (whole 1) :- var 0 :* var 1)
+abbrev d_e : Expr
+d_e = var 9 :- (con (whole 1) :- var 0 :* var 1)
 
-abbrev eE : Expr
-eE = var 6 :- (var 4 :* var 2 :- var 5 :* var 3)
+abbrev e_e : Expr
+e_e = var 6 :- (var 4 :* var 2 :- var 5 :* var 3)
 
-abbrev fE : Expr
-fE = var 7 :- (var 5 :* var 2 :+ var 4 :* var 3)
+abbrev f_e : Expr
+f_e = var 7 :- (var 5 :* var 2 :+ var 4 :* var 3)
 
-rest-same : T (same 10 (rest hE iE nE dE eE fE) (var 8 :* var 6 :- var 9 :* var 7))
+rest-same : T (same 10 (rest h_e i_e n_e d_e e_e f_e) (var 8 :* var 6 :- var 9 :* var 7))
 unfolding same
 rest-same = tt
 
@@ -142,7 +142,7 @@ module _ (t x c s k j C S n d : Fraction) (ht : Size t (frac 1 13)) (hx : Size x
     (A : Within C (k ⊗ c ⊖ j ⊗ s) (tiny 68)) (B : Within S (j ⊗ c ⊕ k ⊗ s) (tiny 68)) where
   crossed : Size (n ⊗ C ⊖ d ⊗ S) (tiny 33)
   crossed =
-      size-≈ (ring (free t ∷ free x ∷ free c ∷ free s ∷ free k ∷ free j ∷ free C ∷ free S ∷ free n ∷ free d ∷ []) (rest hE iE nE dE eE fE) (var 8 :* var 6 :- var 9 :* var 7) rest-same)
+      size-≈ (ring (free t ∷ free x ∷ free c ∷ free s ∷ free k ∷ free j ∷ free C ∷ free S ∷ free n ∷ free d ∷ []) (rest h_e i_e n_e d_e e_e f_e) (var 8 :* var 6 :- var 9 :* var 7) rest-same)
       (bound (errors t x c s k j C S (t ⊗ c ⊖ s) (x ⊗ k ⊖ j) (n ⊖ (t ⊕ x)) (d ⊖ (whole 1 ⊖ t ⊗ x)) (C ⊖ (k ⊗ c ⊖ j ⊗ s)) (S ⊖ (j ⊗ c ⊕ k ⊗ s)))
       (ht, (hx, (hc, (hs, (hk, (hj, (hC, (hS, (within→size p, (within→size q, (within→size N, (within→size D, (within→size A, (within→size B, tt))))))))))))))
       (tiny 33) (rest (var 8) (var 9) (var 10) (var 11) (var 12) (var 13)) (rest-small t x c s k j C S (t ⊗ c ⊖ s) (x ⊗ k ⊖ j) (n ⊖ (t ⊕ x)) (d ⊖ (whole 1 ⊖ t ⊗ x)) (C ⊖ (k ⊗ c ⊖ j ⊗ s)) (S ⊖ (j ⊗ c ⊕ k ⊗ s))))
@@ -203,32 +203,32 @@ unfolding of_bits of_fields odd count_trailing_zeros
 one-finite = tt
 
 pub one_size : Size (value_of one) (whole 1)
-unfolding sizeTest
+unfolding size_test
 one_size = size-≈ (≈-sym one-is) (size-by-test (whole 1) (whole 1) tt)
 
-in-eleven : T (in_range binary64 (whole 11))
+in_eleven : T (in_range binary64 (whole 11))
 unfolding size
-in-eleven = tt
+in_eleven = tt
 
-error-eleven : errorOf binary64 (whole 11) ⊑ tiny 49
+error_eleven : error_of binary64 (whole 11) ⊑ tiny 49
 unfolding size leq
-error-eleven = by-test {a = errorOf binary64 (whole 11)} {b = tiny 49} tt
+error_eleven = by-test {a = error_of binary64 (whole 11)} {b = tiny 49} tt
 
 in_two : T (in_range binary64 (whole 2))
 unfolding size
 in_two = tt
 
-error-two : errorOf binary64 (whole 2) ⊑ tiny 51
+error-two : error_of binary64 (whole 2) ⊑ tiny 51
 unfolding size leq
-error-two = by-test {a = errorOf binary64 (whole 2)} {b = tiny 51} tt
+error-two = by-test {a = error_of binary64 (whole 2)} {b = tiny 51} tt
 
-in-sixty-four : T (in_range binary64 (whole 64))
+in_sixty_four : T (in_range binary64 (whole 64))
 unfolding size
-in-sixty-four = tt
+in_sixty_four = tt
 
-error-sixty-four : errorOf binary64 (whole 64) ⊑ tiny 47
+error-sixty-four : error_of binary64 (whole 64) ⊑ tiny 47
 unfolding size leq
-error-sixty-four = by-test {a = errorOf binary64 (whole 64)} {b = tiny 47} tt
+error-sixty-four = by-test {a = error_of binary64 (whole 64)} {b = tiny 47} tt
 
 good-⊑ : {r : Float} {a e d : Fraction} → e ⊑ d → Good r a e → Good r a d
 good-⊑ l g = record { fin = g.fin; near = within-⊑ l g.near }
@@ -243,7 +243,7 @@ module _ (ty tk : Float) (ht : Held ty (frac 1 13)) (hk : Held tk (frac 41 4)) w
 
   sum-good : Good (add binary64 ty tk) (t ⊕ x) (tiny 49)
   unfolding leq
-  sum-good = good-⊑ error-eleven (rounded-near binary64 (add binary64 ty tk) (t ⊕ x) (whole 11) (add-rounded binary64 ty tk ht.fin hk.fin) (size-⊑ (by-test {a = frac 1 13 ⊕ frac 41 4} {b = whole 11} tt) (size-⊕ ht.size hk.size)) in-eleven)
+  sum-good = good-⊑ error_eleven (rounded-near binary64 (add binary64 ty tk) (t ⊕ x) (whole 11) (add-rounded binary64 ty tk ht.fin hk.fin) (size-⊑ (by-test {a = frac 1 13 ⊕ frac 41 4} {b = whole 11} tt) (size-⊕ ht.size hk.size)) in_eleven)
 
   sum-size : Size (value_of (add binary64 ty tk)) (whole 11)
   unfolding leq
@@ -271,7 +271,7 @@ module _ (ty tk : Float) (ht : Held ty (frac 1 13)) (hk : Held tk (frac 41 4)) w
   turned = ≈-trans (⊕-cong (⊗-cong (≈-refl t) (value-neg tk)) one-is) (ring (free t ∷ free x ∷ []) (var 0 :* minus (var 1) :+ con (whole 1)) (con (whole 1) :- var 0 :* var 1) tt)
 
   rest-near : Within (value_of (fmla ty (negate tk) one)) (whole 1 ⊖ t ⊗ x) (tiny 50)
-  unfolding leq sizeTest
+  unfolding leq size_test
   rest-near =
       within-⊑ (by-test {a = tiny 51 ⊕ (tiny 51 ⊕ whole 0)} {b = tiny 50} tt)
       (within-≈ (≈-refl (value_of (fmla ty (negate tk) one))) turned (triangle rest-good.near (within-⊕ product-good.near (within-refl (≈-refl (value_of one))))))
@@ -281,7 +281,7 @@ module _ (ty tk : Float) (ht : Held ty (frac 1 13)) (hk : Held tk (frac 41 4)) w
   rest-apart = apart (t ⊗ x) (value_of (fmla ty (negate tk) one)) (size-⊑ (by-test {a = frac 1 13 ⊗ frac 41 4} {b = frac 41 52} tt) (size-⊗ ht.size hk.size)).below rest-near.above
 
   rest-nonzero : T (nonzero (fmla ty (negate tk) one))
-  rest-nonzero = not-zero (fmla ty (negate tk) one) rest-good.fin (λ e. clash (⊑_trans rest-apart (≈→⊑ e)))
+  rest-nonzero = not_zero (fmla ty (negate tk) one) rest-good.fin (λ e. clash (⊑_trans rest-apart (≈→⊑ e)))
     where
       clash : frac 1 5 ⊑ whole 0 → ⊥
       clash h = omega (arith, h.le)
@@ -294,43 +294,43 @@ module _ (y : Float) (k : ℕ) (H : Held y (frac 3 4)) (l : k < 64) (o : k % 32 
   abbrev v : Fraction
   v = whole k ⊕ value_of y
 
-  E : TangentNear (tableTangent k) k
-  E = table-tangent k l
+  E : TangentNear (table_tangent k) k
+  E = table_tangent_lem k l
 
-  hk : Held (tableTangent k) (frac 41 4)
+  hk : Held (table_tangent k) (frac 41 4)
   hk = record { fin = E.fin; size = E.size o }
 
-  ht : Held (tanY y) (frac 1 13)
+  ht : Held (tan_of_y y) (frac 1 13)
   ht = steps-held y H
 
   abbrev n : Float
-  n = add binary64 (tanY y) (tableTangent k)
+  n = add binary64 (tan_of_y y) (table_tangent k)
 
   abbrev d : Float
-  d = fmla (tanY y) (negate (tableTangent k)) one
+  d = fmla (tan_of_y y) (negate (table_tangent k)) one
 
-  cross : Size (value_of n ⊗ exactCosine v ⊖ value_of d ⊗ exactSine v) (tiny 33)
+  cross : Size (value_of n ⊗ exact_cosine v ⊖ value_of d ⊗ exact_sine v) (tiny 33)
   cross =
-      crossed (value_of (tanY y)) (value_of (tableTangent k)) (cosSeries a) (sinSeries a) (exactCosine (whole k)) (exactSine (whole k)) (exactCosine v) (exactSine v) (value_of n) (value_of d)
-      ht.size hk.size (cos-one a (step-angle y H)) (sin-one a (step-angle y H)) (cosine-at-most-one (whole k)) (sine-at-most-one (whole k)) (cosine-at-most-one v) (sine-at-most-one v)
-      (steps-near y H) (E.near o) (sum-good (tanY y) (tableTangent k) ht hk).near (rest-near (tanY y) (tableTangent k) ht hk) (turn-cosine (whole k) (value_of y) (one-step y H)) (turn-sine (whole k) (value_of y) (one-step y H))
+      crossed (value_of (tan_of_y y)) (value_of (table_tangent k)) (cos_series a) (sin_series a) (exact_cosine (whole k)) (exact_sine (whole k)) (exact_cosine v) (exact_sine v) (value_of n) (value_of d)
+      ht.size hk.size (cos_one a (step-angle y H)) (sin_one a (step-angle y H)) (cosine-at-most-one (whole k)) (sine-at-most-one (whole k)) (cosine-at-most-one v) (sine-at-most-one v)
+      (steps-near y H) (E.near o) (sum-good (tan_of_y y) (table_tangent k) ht hk).near (rest-near (tan_of_y y) (table_tangent k) ht hk) (turn-cosine (whole k) (value_of y) (one-step y H)) (turn-sine (whole k) (value_of y) (one-step y H))
 
   Q : Quotient n d
-  Q = quotient-of n d (sum-good (tanY y) (tableTangent k) ht hk).fin (rest-nonzero (tanY y) (tableTangent k) ht hk)
+  Q = quotient-of n d (sum-good (tan_of_y y) (table_tangent k) ht hk).fin (rest-nonzero (tan_of_y y) (table_tangent k) ht hk)
 
-  Q-size : Size Q.at (whole 64)
-  Q-size = quotient-size Q.at (value_of n) (value_of d) Q.is (rest-apart (tanY y) (tableTangent k) ht hk) (sum-size (tanY y) (tableTangent k) ht hk)
+  QSize : Size Q.at (whole 64)
+  QSize = quotient-size Q.at (value_of n) (value_of d) Q.is (rest-apart (tan_of_y y) (table_tangent k) ht hk) (sum-size (tan_of_y y) (table_tangent k) ht hk)
 
-  Q-good : Good (tangent64 y k) Q.at (tiny 47)
-  Q-good = good-⊑ error-sixty-four (rounded-near binary64 (tangent64 y k) Q.at (whole 64) Q.rounded Q-size in-sixty-four)
+  QGood : Good (tangent64 y k) Q.at (tiny 47)
+  QGood = good-⊑ error-sixty-four (rounded-near binary64 (tangent64 y k) Q.at (whole 64) Q.rounded QSize in_sixty_four)
 
   pub far-held : Held (tangent64 y k) (whole (2 ^ 121))
   unfolding leq
-  far-held = record { fin = Q-good.fin; size = size-⊑ (by-test {a = whole 64 ⊕ tiny 47} {b = whole (2 ^ 121)} tt) (size-near Q-good.near Q-size) }
+  far-held = record { fin = QGood.fin; size = size-⊑ (by-test {a = whole 64 ⊕ tiny 47} {b = whole (2 ^ 121)} tt) (size-near QGood.near QSize) }
 
   pub far-ahead : Ahead (value_of (tangent64 y k)) v
   unfolding leq
   far-ahead =
       let q = value_of (tangent64 y k) in
-      let w = quotient-left Q.at (value_of n) (value_of d) Q.is (rest-apart (tanY y) (tableTangent k) ht hk) (exactCosine v) (exactSine v) cross in
-      within-⊑ (⊑_trans (by-test {a = tiny 47 ⊗ whole 1 ⊕ tiny 30} {b = tiny 26} tt) (room_for (tiny 26) q 37)) (triangle (within-mul-right Q-good.near (cosine-at-most-one v)) w)
+      let w = quotient-left Q.at (value_of n) (value_of d) Q.is (rest-apart (tan_of_y y) (table_tangent k) ht hk) (exact_cosine v) (exact_sine v) cross in
+      within-⊑ (⊑_trans (by-test {a = tiny 47 ⊗ whole 1 ⊕ tiny 30} {b = tiny 26} tt) (room_for (tiny 26) q 37)) (triangle (within-mul-right QGood.near (cosine-at-most-one v)) w)

@@ -8,13 +8,13 @@ use lib.Ieee.Scale.{finite}
 use Rattle.exact.specs.Fraction.{Fraction, ◌≈◌, ◌⊑◌, ◌⊕◌, ◌⊗◌, ◌⊖◌, neg, whole, frac, tiny, Size}
 use Rattle.exact.specs.Value.{value_of, integer}
 use Rattle.exact.specs.Multiple.{dif, pw, Multiple, Apart}
-use Rattle.exact.proofs.Order.{≈-refl, ≈-sym, ≈-trans, ⊕-cong, ⊗-cong, ⊕-zero, ⊗-one, tiny-mono, ≈→⊒, ⊑_trans, neg-cong}
+use Rattle.exact.proofs.Order.{≈-refl, ≈-sym, ≈-trans, ⊕-cong, ⊗-cong, ⊕-zero, ⊗-one, tiny-mono, ≈→⊒, ⊑_trans, neg_cong}
 use Rattle.exact.proofs.Poly.{var, con, ◌:+◌, ◌:*◌, ◌:-◌, free, same}
 use Rattle.exact.proofs.Cert.{ring}
 use Rattle.exact.proofs.Keep.{apart-⊑}
 use Rattle.exact.proofs.Multiple.{multiple-≈, multiple-unit, multiple-⊖, multiple-⊗, multiple-trans, pw-multiple}
 use Rattle.exact.proofs.Away.{int-multiple}
-use Rattle.reducers.specs.Exact.{modTurn}
+use Rattle.reducers.specs.Exact.{mod_turn}
 use Rattle.formulas.specs.Words.{zero64}
 use Rattle.formulas.specs.Tangent.{AtHalf}
 use borrow.Author.Tests.{lt-leb}
@@ -47,7 +47,7 @@ module _ (kp km np nm : ℕ) (Y : Fraction) (e : dif kp km ⊕ Y ≈ whole 32 �
       go p q f g = omega arith
 
 module _ (X Y : Fraction) (h : Size Y (frac 1 2)) where
-  pub half-steps : (k n : ℤ) → integer k ⊕ Y ≈ whole 32 ⊗ X → X ≈ integer n ⊕ frac 1 2 → (Y ≈ whole 0) × (modTurn k % 32 ≡ 16)
+  pub half-steps : (k n : ℤ) → integer k ⊕ Y ≈ whole 32 ⊗ X → X ≈ integer n ⊕ frac 1 2 → (Y ≈ whole 0) × (mod_turn k % 32 ≡ 16)
   half-steps (pos j) (pos i) e f =
       let g = ≈-trans e (⊗-cong (≈-refl (whole 32)) f) in
       let s = steps-equal j 0 i 0 Y g h in
@@ -66,8 +66,8 @@ module _ (X Y : Fraction) (h : Size Y (frac 1 2)) where
       (none_left 0 (suc j) 0 (suc i) Y g h, omega arith)
 
 -- whole numbers are not that
-pub whole-not-half : (X : Fraction) → Multiple X (whole 1) → (n : ℤ) → X ≈ integer n ⊕ frac 1 2 → ⊥
-whole-not-half X M n e = go M.p M.m n (≈-trans (≈-sym M.is) e)
+pub whole_not_half : (X : Fraction) → Multiple X (whole 1) → (n : ℤ) → X ≈ integer n ⊕ frac 1 2 → ⊥
+whole_not_half X M n e = go M.p M.m n (≈-trans (≈-sym M.is) e)
   where
     go : (p m : ℕ) (n : ℤ) → dif p m ⊗ whole 1 ≈ integer n ⊕ frac 1 2 → ⊥
     go p m (pos i) e = omega (arith, e.eq)
@@ -86,7 +86,7 @@ later a b f g = elim (dec_le 32 a) [ yes h ↦ le-leb 32 a h ∙ sym (eq-eqb b 1
     under : (32 ≤ a → ⊥) → a < 32
     under h = omega arith
 
-pub at-half : (x : Float) (k : ℤ) (Y : Fraction) → integer k ⊕ Y ≈ whole 32 ⊗ value_of x → Y ≈ whole 0 → modTurn k % 32 ≡ 16 → AtHalf x (inf (leb 32 (modTurn k)))
+pub at-half : (x : Float) (k : ℤ) (Y : Fraction) → integer k ⊕ Y ≈ whole 32 ⊗ value_of x → Y ≈ whole 0 → mod_turn k % 32 ≡ 16 → AtHalf x (inf (leb 32 (mod_turn k)))
 at-half x (pos j) Y e z h =
     record {
       n = pos (j / 32);
@@ -133,14 +133,14 @@ eq-zero (fin false m d) p e = both (eqb (m * up d * 1) (0 * 1 * down d)) (true |
     none : (n d : ℕ) → n * 1 + 0 * d ≡ 0 * d + 0 * 1 → n * 1 ≡ 0 * 1 * d
     none n d h = omega arith
 
-pub not-zero : (y : Float) → T (finite y) → eq y zero64 ≡ false → value_of y ≈ whole 0 → ⊥
-not-zero y p f e = subst T f (eq-zero y p e)
+pub not_zero : (y : Float) → T (finite y) → eq y zero64 ≡ false → value_of y ≈ whole 0 → ⊥
+not_zero y p f e = subst T f (eq-zero y p e)
 
 multiple-apart : (v : Fraction) → Multiple v (tiny 32) → (v ≈ whole 0 → ⊥) → Apart v (tiny 32)
 multiple-apart v M n =
     elim (dec_le (suc M.m) M.p) [
       | yes h ↦ inl (⊑_trans (over M.p M.m h) (≈→⊒ M.is))
-      | no h ↦ elim (dec_le (suc M.p) M.m) [ yes i ↦ inr (⊑_trans (under M.p M.m i) (≈→⊒ (neg-cong M.is))) | no i ↦ absurd (n (≈-trans M.is (none M.p M.m (omega arith)))) ]
+      | no h ↦ elim (dec_le (suc M.p) M.m) [ yes i ↦ inr (⊑_trans (under M.p M.m i) (≈→⊒ (neg_cong M.is))) | no i ↦ absurd (n (≈-trans M.is (none M.p M.m (omega arith)))) ]
     ]
   where
     over : (p m : ℕ) → suc m ≤ p → tiny 32 ⊑ dif p m ⊗ tiny 32

@@ -5,13 +5,13 @@ use lib.Ieee.{Float, Format, nan, inf, fin, binary32, prec, low, up, down, size}
 use lib.Ieee.Digits.{size_reaches}
 use lib.Ieee.Fits.{down_pos}
 use lib.Ieee.Scale.{finite}
-use Rattle.exact.specs.Fraction.{Fraction, ◌≈◌, ◌⊑◌, ◌⊕◌, ◌⊗◌, ◌⊖◌, neg, whole, tiny, abs, Size, Within, sizeTest}
+use Rattle.exact.specs.Fraction.{Fraction, ◌≈◌, ◌⊑◌, ◌⊕◌, ◌⊗◌, ◌⊖◌, neg, whole, tiny, abs, Size, Within, size_test}
 use Rattle.exact.specs.Value.{value_of, Good}
-use Rattle.exact.specs.Rounded.{Rounded, in_range, halfSpacing}
+use Rattle.exact.specs.Rounded.{Rounded, in_range, half_spacing}
 use Rattle.exact.proofs.Order.{≈-sym, ≈-trans, ≈→⊑, ⊑_refl, ⊑_trans, ⊑-antisym, ⊑-abs, neg-⊑-abs, abs-size, abs-below, signs, nonneg, nonneg⁻, ⊕-zero, ⊕-mono, ⊗-nonneg, tiny-pos, ≈→⊒, size-by-test, ⊗-cong, neg-⊗, size-⊑, size-≈, size-⊕, size-⊗, size-neg, size-near, size→within, within→size, within-⊑, within-sym}
 use Rattle.exact.proofs.Poly.{var, con, ◌:+◌, ◌:*◌, ◌:-◌, free, same, le, hyp, num, ◌+c◌, ◌*c◌}
 use Rattle.exact.proofs.Cert.{ring, prove}
-use Rattle.exact.proofs.Rounding.{nearestIn-rounded}
+use Rattle.exact.proofs.Rounding.{nearest_in-rounded}
 use Rattle.exact.proofs.Spacing.{rounded-spaced}
 use Rattle.formulas.specs.Words.{narrowed}
 
@@ -48,21 +48,21 @@ module _ (f : Format) (m : ℕ) (e : lib.IntN.ℤ) (A : ℕ) (is : A ≡ m * up 
             wide (2 ^ (size n - prec f)) A (down e) (2 ^ prec f) (2 ^ suc (low f)) (le_trans c (le_of_eq (ap (λ z. z * 2 ^ suc (low f)) (sym is)))))
       ]
 
-spacing-size : (f : Format) (r : Float) → T (finite r) → halfSpacing f r ⊑ abs (value_of r) ⊗ tiny (prec f) ⊕ tiny (suc (low f))
-spacing-size f nan p = absurd p
-spacing-size f (inf s) p = absurd p
-spacing-size f (fin true m e) p = record { le = spaced f m e (0 - m * up e + (m * up e - 0)) (go (m * up e)) }
+spacing_size : (f : Format) (r : Float) → T (finite r) → half_spacing f r ⊑ abs (value_of r) ⊗ tiny (prec f) ⊕ tiny (suc (low f))
+spacing_size f nan p = absurd p
+spacing_size f (inf s) p = absurd p
+spacing_size f (fin true m e) p = record { le = spaced f m e (0 - m * up e + (m * up e - 0)) (go (m * up e)) }
   where
     go : (n : ℕ) → 0 - n + (n - 0) ≡ n
     go n = omega arith
-spacing-size f (fin false m e) p = record { le = spaced f m e (m * up e - 0 + (0 - m * up e)) (go (m * up e)) }
+spacing_size f (fin false m e) p = record { le = spaced f m e (m * up e - 0 + (0 - m * up e)) (go (m * up e)) }
   where
     go : (n : ℕ) → n - 0 + (0 - n) ≡ n
     go n = omega arith
 
 -- what is rounded is that near, at the answer
 pub rounded-part : (f : Format) (r : Float) (a b : Fraction) → Rounded f r a → Size a b → T (in_range f b) → Good r a (abs (value_of r) ⊗ tiny (prec f) ⊕ tiny (suc (low f)))
-rounded-part f r a b R h t = let g = rounded-spaced f r a b R h t in record { fin = g.fin; near = within-⊑ (spacing-size f r g.fin) g.near }
+rounded-part f r a b R h t = let g = rounded-spaced f r a b R h t in record { fin = g.fin; near = within-⊑ (spacing_size f r g.fin) g.near }
 
 -- ---- absolute values
 pub flipped : {a : Fraction} → whole 0 ⊑ a → neg a ⊑ a
@@ -95,7 +95,7 @@ abs-pos a = nonneg zero-le
 
 -- ---- small steps
 pub no_size : {x : Fraction} → x ≈ whole 0 → Size x (whole 0)
-unfolding sizeTest
+unfolding size_test
 no_size e = size-≈ (≈-sym e) (size-by-test (whole 0) (whole 0) tt)
 
 -- a + b for b at least 0
@@ -134,14 +134,14 @@ settled q p v b h h0 h1 h2 h3 h4 =
 abbrev pub Before : Float → Fraction → Fraction → Type 0
 Before z C S = Within (value_of z ⊗ C) S (tiny 25 ⊕ abs (value_of z) ⊗ tiny 36)
 
-pub narrowed-tangent : (z : Float) (C S : Fraction) → T (finite z) → Size (value_of z) (whole (2 ^ 121)) → Size C (whole 1) → Size S (whole 1) → Before z C S
+pub narrowed_tangent : (z : Float) (C S : Fraction) → T (finite z) → Size (value_of z) (whole (2 ^ 121)) → Size C (whole 1) → Size S (whole 1) → Before z C S
     → T (finite (narrowed z)) × Within (value_of (narrowed z) ⊗ C) S (tiny 23 ⊕ abs (value_of (narrowed z)) ⊗ tiny 35)
-narrowed-tangent z C S f s c o w =
+narrowed_tangent z C S f s c o w =
     let p = value_of z in
     let a = value_of (narrowed z) in
     let b = abs a in
     let h = b ⊗ tiny 24 ⊕ tiny 150 in
-    let r = rounded-part binary32 (narrowed z) p (whole (2 ^ 121)) (nearestIn-rounded binary32 z f) s largest in
+    let r = rounded-part binary32 (narrowed z) p (whole (2 ^ 121)) (nearest_in-rounded binary32 z f) s largest in
     let d = a ⊗ C ⊖ S in
     let hp : abs p ⊑ b ⊕ h = abs-below p (b ⊕ h) (size-near (within-sym r.near) (abs-size a)) in
     let k : Size d ((tiny 25 ⊕ abs p ⊗ tiny 36) ⊕ h ⊗ abs C) = size-≈ (parted a p C S) (size-⊕ (within→size w) (size-⊗ (within→size r.near) (abs-size C))) in

@@ -4,34 +4,34 @@ use native.Mathlib.Decide.{dec_le}
 use lib.Count.{count_trailing_zeros}
 use lib.Ieee.{Float, binary64, of_bits, of_fields, odd, size, add, mul, div, neg as negate}
 use lib.Ieee.Scale.{finite}
-use Rattle.exact.specs.Fraction.{Fraction, ◌≈◌, ◌⊑◌, ◌⊕◌, ◌⊗◌, ◌⊖◌, neg, whole, frac, tiny, abs, Size, Within, leq, sizeTest, withinTest}
+use Rattle.exact.specs.Fraction.{Fraction, ◌≈◌, ◌⊑◌, ◌⊕◌, ◌⊗◌, ◌⊖◌, neg, whole, frac, tiny, abs, Size, Within, leq, size_test, within_test}
 use Rattle.exact.specs.Value.{value_of, Good, Held}
 use Rattle.exact.specs.Multiple.{pw, Apart}
 use Rattle.exact.specs.Rounded.{Rounded, in_range, units, place}
-use Rattle.exact.proofs.Order.{by-test, ≈-refl, ≈-sym, ≈-trans, ≈→⊑, ≈→⊒, ⊑_refl, ⊑_trans, ⊕-cong, ⊕-mono, ⊕-zero, zero-⊕, ⊗-mono, ⊗-mono-right, tiny-pos, neg-mono, ⊑-abs, neg-⊑-abs, tiny-mono, diff, abs-size, abs-below, size-⊑, size-≈, size-⊕, size-⊗, size-neg, size-near, size-by-test, size→within, within→size, triangle, within-⊑, within-≈, within-⊕, within-sym, within-refl, within-by-test}
-use Rattle.exact.proofs.More.{not-zero}
+use Rattle.exact.proofs.Order.{by-test, ≈-refl, ≈-sym, ≈-trans, ≈→⊑, ≈→⊒, ⊑_refl, ⊑_trans, ⊕-cong, ⊕-mono, ⊕-zero, zero-⊕, ⊗-mono, ⊗-mono_right, tiny-pos, neg-mono, ⊑-abs, neg-⊑-abs, tiny-mono, diff, abs-size, abs-below, size-⊑, size-≈, size-⊕, size-⊗, size-neg, size-near, size-by-test, size→within, within→size, triangle, within-⊑, within-≈, within-⊕, within-sym, within-refl, within-by-test}
+use Rattle.exact.proofs.More.{not_zero}
 use Rattle.exact.proofs.Poly.{Expr, var, con, ◌:+◌, ◌:*◌, ◌:-◌, minus, free, Env, val, same, small, le, hyp, num, ◌+c◌, ◌*c◌}
 use Rattle.exact.proofs.Cert.{ring, prove}
 use Rattle.exact.proofs.Bound.{bound}
 use Rattle.exact.proofs.Keep.{apart-⊑, rounded-apart}
 use Rattle.exact.proofs.Multiple.{pw-le}
 use Rattle.exact.proofs.Rounding.{rounded-held, add-rounded, mul-rounded, nonzero, finite-neg, value-neg}
-use Rattle.circle.specs.Series.{sinSeries, cosSeries}
-use Rattle.circle.specs.Circle.{step, quarter, turns, nearest, exactSine, exactCosine}
-use Rattle.circle.proofs.Steady.{sin-one, cos-one}
+use Rattle.circle.specs.Series.{sin_series, cos_series}
+use Rattle.circle.specs.Circle.{step, quarter, turns, nearest, exact_sine, exact_cosine}
+use Rattle.circle.proofs.Steady.{sin_one, cos_one}
 use Rattle.circle.proofs.Turn.{turn-sine, turn-cosine}
 use Rattle.circle.proofs.Mirror.{sine-at-most-one}
-use Rattle.table.specs.Tangents.{tableTangent, TangentNear, tanY, tangent64}
-use Rattle.table.proofs.Tangents.{table-tangent}
+use Rattle.table.specs.Tangents.{table_tangent, TangentNear, tan_of_y, tangent64}
+use Rattle.table.proofs.Tangents.{table_tangent_lem}
 use Rattle.formulas.specs.Words.{one, fmla}
 use Rattle.formulas.proofs.TangentNarrowed.{rounded-part, flipped, abs-⊗, abs-pos, no_size}
-use Rattle.formulas.proofs.TangentNear.{one-step, step-angle, steps-near, steps-held, tanFactor, factor-near}
+use Rattle.formulas.proofs.TangentNear.{one-step, step-angle, steps-near, steps-held, tan_factor, factor-near}
 use Rattle.formulas.proofs.TangentFar.{divided, Quotient, quotient-of, Ahead, one-is, one_size, one-finite}
 
 -- ---- rounding by a part of the exact size
-in-range : T (in_range binary64 (whole (2 ^ 160)))
+in_range_lem : T (in_range binary64 (whole (2 ^ 160)))
 unfolding size
-in-range = tt
+in_range_lem = tt
 
 last_less : tiny 1075 ⊑ tiny 200
 last_less = tiny-mono 200 1075 (lit≤ tt)
@@ -44,7 +44,7 @@ share r a h k =
 
 rounded-share : (r : Float) (a : Fraction) → Rounded binary64 r a → Size a (whole (2 ^ 160)) → Good r a (abs a ⊗ tiny 52 ⊕ tiny 199)
 rounded-share r a R h =
-    let g = rounded-part binary64 r a (whole (2 ^ 160)) R h in-range in
+    let g = rounded-part binary64 r a (whole (2 ^ 160)) R h in_range_lem in
     let w : Within (value_of r) a (abs (value_of r) ⊗ tiny 53 ⊕ tiny 200) = within-⊑ (⊕-mono (⊑_refl (abs (value_of r) ⊗ tiny 53)) last_less) g.near in
     let k : abs (value_of r) ⊑ abs a ⊕ (abs (value_of r) ⊗ tiny 53 ⊕ tiny 200) = abs-below (value_of r) (abs a ⊕ (abs (value_of r) ⊗ tiny 53 ⊕ tiny 200)) (size-near w (abs-size a)) in
     record { fin = g.fin; near = within-⊑ (share (abs (value_of r)) (abs a) k (abs-pos a)) w }
@@ -80,12 +80,12 @@ apart-abs : {a c : Fraction} → Apart a c → c ⊑ abs a
 apart-abs {a} (inl h) = ⊑_trans h (⊑-abs a)
 apart-abs {a} (inr h) = ⊑_trans h (neg-⊑-abs a)
 
-tangent-apart : (y : Float) → Held y (frac 3 4) → Apart (value_of y) (tiny 115) → tiny 119 ⊑ abs (value_of (tanY y))
-tangent-apart y H A =
+tangent_apart : (y : Float) → Held y (frac 3 4) → Apart (value_of y) (tiny 115) → tiny 119 ⊑ abs (value_of (tan_of_y y))
+tangent_apart y H A =
     let f = factor-near y H in
-    let a = value_of (tanFactor y) ⊗ value_of y in
-    let b : Apart a (tiny 119) = product-apart (value_of (tanFactor y)) (value_of y) (factor-large (value_of (tanFactor y)) f.near.above) A in
-    apart-abs (apart-⊑ up_to (rounded-apart binary64 (tanY y) a 955 (mul-rounded binary64 (tanFactor y) y f.fin H.fin) (steps-held y H).fin (apart-⊑ down_to b)))
+    let a = value_of (tan_factor y) ⊗ value_of y in
+    let b : Apart a (tiny 119) = product-apart (value_of (tan_factor y)) (value_of y) (factor-large (value_of (tan_factor y)) f.near.above) A in
+    apart-abs (apart-⊑ up_to (rounded-apart binary64 (tan_of_y y) a 955 (mul-rounded binary64 (tan_factor y) y f.fin H.fin) (steps-held y H).fin (apart-⊑ down_to b)))
 
 -- ---- lines
 large_product : (b z : Fraction) → tiny 119 ⊑ b → whole (2 ^ 148) ⊑ z → whole (2 ^ 29) ⊑ b ⊗ z
@@ -106,9 +106,9 @@ sum-line m z h k =
     ((var 0 :* con (tiny 52) :+ con (tiny 199)) :+ (con (frac 1 13) :+ con (whole 0))) (var 1 :* con (tiny 51))
     (num 1 (2 ^ 52) *c hyp 1 +c num 1 (2 ^ 52) *c hyp 0 +c num 827545865385884972546556060915506408905029539610609659186516491116670555350777248421511155 10445097287683436791022753600217556916394319459588153429458944) tt
 
-not-small : (w : Fraction) → whole (2 ^ 29) ⊑ w → w ⊑ whole 0 ⊕ w ⊗ tiny 28 → ⊥
+not_small : (w : Fraction) → whole (2 ^ 29) ⊑ w → w ⊑ whole 0 ⊕ w ⊗ tiny 28 → ⊥
 unfolding same
-not-small w h k =
+not_small w h k =
     clash (prove (free w ∷ []) (le (con (whole (2 ^ 29))) (var 0) ∷ le (var 0) (con (whole 0) :+ var 0 :* con (tiny 28)) ∷ []) (h, (k, tt)) (con (whole 1)) (con (whole 0)) (num 1 536870910 *c hyp 1 +c num 1 (2 ^ 29) *c hyp 0) tt)
   where
     clash : whole 1 ⊑ whole 0 → ⊥
@@ -220,7 +220,7 @@ module _ (ty tk : Float) (ht : Held ty (frac 1 13)) (fk : T (finite tk)) (sk : S
   rest-good = rounded-share d (value_of m ⊕ value_of one) (add-rounded binary64 m one product-good.fin one-finite) (size-⊑ (by-test {a = whole (2 ^ 152) ⊕ whole 1} {b = whole (2 ^ 160)} tt) (size-⊕ product-limit one_size))
 
   one-off : Within (value_of one) (whole 0) (whole 1)
-  unfolding withinTest
+  unfolding within_test
   one-off = within-≈ (≈-sym one-is) (≈-refl (whole 0)) (within-by-test (whole 1) (whole 0) (whole 1) tt)
 
   rest-near : Within (value_of d) (t ⊗ z) ((b ⊗ z) ⊗ tiny 28)
@@ -229,7 +229,7 @@ module _ (ty tk : Float) (ht : Held ty (frac 1 13)) (fk : T (finite tk)) (sk : S
       (triangle rest-good.near (within-≈ (≈-refl (value_of m ⊕ value_of one)) (⊕-zero (t ⊗ z)) (within-⊕ product-good.near one-off)))
 
   rest-nonzero : T (nonzero d)
-  rest-nonzero = not-zero d rest-good.fin (λ e. not-small (b ⊗ z) w-large (⊑_trans (⊑_trans (⊗-mono-right b (abs-pos t) (⊑-abs z)) (abs-⊗ t z)) (abs-below (t ⊗ z) (whole 0 ⊕ (b ⊗ z) ⊗ tiny 28) (size-near (within-sym rest-near) (no_size e)))))
+  rest-nonzero = not_zero d rest-good.fin (λ e. not_small (b ⊗ z) w-large (⊑_trans (⊑_trans (⊗-mono_right b (abs-pos t) (⊑-abs z)) (abs-⊗ t z)) (abs-below (t ⊗ z) (whole 0 ⊕ (b ⊗ z) ⊗ tiny 28) (size-near (within-sym rest-near) (no_size e)))))
 
   -- the sum
   sum-good : Good n (t ⊕ value_of tk) (abs (t ⊕ value_of tk) ⊗ tiny 52 ⊕ tiny 199)
@@ -258,7 +258,7 @@ module _ (ty tk : Float) (ht : Held ty (frac 1 13)) (fk : T (finite tk)) (sk : S
       (size-⊑ (product-line (abs Q.at) b z (abs (Q.at ⊗ t)) w-at-most z-pos) (size-≈ (joined Q.at t z (value_of d) (value_of n) Q.is) (size-⊕ (size-⊗ (abs-size Q.at) (within→size (within-sym rest-near))) (within→size sum_near))))
 
   w-line : abs (Q.at ⊗ t) ⊑ whole 1 ⊕ (abs (Q.at ⊗ t) ⊗ tiny 28 ⊕ tiny 51)
-  unfolding sizeTest
+  unfolding size_test
   w-line = abs-below (Q.at ⊗ t) (whole 1 ⊕ (abs (Q.at ⊗ t) ⊗ tiny 28 ⊕ tiny 51)) (size-near (size→within {a = Q.at ⊗ t} {b = neg (whole 1)} unit_size) (size-by-test (neg (whole 1)) (whole 1) tt))
 
   v-by-b : abs Q.at ⊗ b ⊑ whole 2
@@ -281,21 +281,21 @@ module _ (ty tk : Float) (ht : Held ty (frac 1 13)) (fk : T (finite tk)) (sk : S
       (size-⊕ (size-⊑ (unit-line (abs (Q.at ⊗ t)) w-line) unit_size) (size-⊑ (last_line (abs Q.at) b v-by-b b-small) (size-⊗ (within→size quotient-good.near) (abs-size t))))
 
 -- ---- the two steps of an odd quarter turn
-cosine-16 : Size (exactCosine (whole 16)) (tiny 80)
-unfolding sizeTest exactCosine nearest turns quarter sinSeries cosSeries step
-cosine-16 = size-by-test (exactCosine (whole 16)) (tiny 80) tt
+cosine_16 : Size (exact_cosine (whole 16)) (tiny 80)
+unfolding size_test exact_cosine nearest turns quarter sin_series cos_series step
+cosine_16 = size-by-test (exact_cosine (whole 16)) (tiny 80) tt
 
-cosine-48 : Size (exactCosine (whole 48)) (tiny 80)
-unfolding sizeTest exactCosine nearest turns quarter sinSeries cosSeries step
-cosine-48 = size-by-test (exactCosine (whole 48)) (tiny 80) tt
+cosine_48 : Size (exact_cosine (whole 48)) (tiny 80)
+unfolding size_test exact_cosine nearest turns quarter sin_series cos_series step
+cosine_48 = size-by-test (exact_cosine (whole 48)) (tiny 80) tt
 
-table-16 : Size (value_of (tableTangent 16)) (whole (2 ^ 151))
-unfolding sizeTest tableTangent of_bits of_fields odd count_trailing_zeros
-table-16 = size-by-test (value_of (tableTangent 16)) (whole (2 ^ 151)) tt
+table_16 : Size (value_of (table_tangent 16)) (whole (2 ^ 151))
+unfolding size_test table_tangent of_bits of_fields odd count_trailing_zeros
+table_16 = size-by-test (value_of (table_tangent 16)) (whole (2 ^ 151)) tt
 
-table-48 : Size (value_of (tableTangent 48)) (whole (2 ^ 151))
-unfolding sizeTest tableTangent of_bits of_fields odd count_trailing_zeros
-table-48 = size-by-test (value_of (tableTangent 48)) (whole (2 ^ 151)) tt
+table_48 : Size (value_of (table_tangent 48)) (whole (2 ^ 151))
+unfolding size_test table_tangent of_bits of_fields odd count_trailing_zeros
+table_48 = size-by-test (value_of (table_tangent 48)) (whole (2 ^ 151)) tt
 
 -- one of the two steps that are a modulo 32
 pub at-steps : (P : ℕ → Type 0) (a k : ℕ) → k < 64 → k % 32 ≡ a → P a → P (a + 32) → P k
@@ -321,19 +321,19 @@ turning-small : (q t c s k j r h e f : Fraction) → T (small (parts q t c s k j
 unfolding small leq
 turning-small q t c s k j r h e f = tt
 
-abbrev rE : Expr
-rE = var 0 :* var 1 :+ con (whole 1)
+abbrev r_e : Expr
+r_e = var 0 :* var 1 :+ con (whole 1)
 
-abbrev hE : Expr
-hE = var 1 :* var 2 :- var 3
+abbrev h_e : Expr
+h_e = var 1 :* var 2 :- var 3
 
-abbrev eE : Expr
-eE = var 6 :- (var 4 :* var 2 :- var 5 :* var 3)
+abbrev e_e : Expr
+e_e = var 6 :- (var 4 :* var 2 :- var 5 :* var 3)
 
-abbrev fE : Expr
-fE = var 7 :- (var 5 :* var 2 :+ var 4 :* var 3)
+abbrev f_e : Expr
+f_e = var 7 :- (var 5 :* var 2 :+ var 4 :* var 3)
 
-together-same : T (same 8 (fixed rE fE :+ var 0 :* turning hE eE) (var 0 :* var 6 :- var 7))
+together-same : T (same 8 (fixed r_e f_e :+ var 0 :* turning h_e e_e) (var 0 :* var 6 :- var 7))
 unfolding same
 together-same = tt
 
@@ -354,7 +354,7 @@ module _ (q t c s k j C S : Fraction) (hq : Size q (abs q)) (ht : Size t (frac 1
 
   together : Within (q ⊗ C) S (tiny 26 ⊕ abs q ⊗ tiny 37)
   together =
-      size→within (size-≈ (ring (free q ∷ free t ∷ free c ∷ free s ∷ free k ∷ free j ∷ free C ∷ free S ∷ []) (fixed rE fE :+ var 0 :* turning hE eE) (var 0 :* var 6 :- var 7) together-same)
+      size→within (size-≈ (ring (free q ∷ free t ∷ free c ∷ free s ∷ free k ∷ free j ∷ free C ∷ free S ∷ []) (fixed r_e f_e :+ var 0 :* turning h_e e_e) (var 0 :* var 6 :- var 7) together-same)
       (size-⊕ fixed-size (size-⊗ hq turning-size)))
 
 -- ---- at k + y
@@ -362,19 +362,19 @@ module _ (y : Float) (k : ℕ) (H : Held y (frac 3 4)) (l : k < 64) (o : k % 32 
   abbrev a : Fraction
   a = value_of y ⊗ step
 
-  E : TangentNear (tableTangent k) k
-  E = table-tangent k l
+  E : TangentNear (table_tangent k) k
+  E = table_tangent_lem k l
 
-  limit : Size (value_of (tableTangent k)) (whole (2 ^ 151))
-  limit = at-steps (λ i. Size (value_of (tableTangent i)) (whole (2 ^ 151))) 16 k l o table-16 table-48
+  limit : Size (value_of (table_tangent k)) (whole (2 ^ 151))
+  limit = at-steps (λ i. Size (value_of (table_tangent i)) (whole (2 ^ 151))) 16 k l o table_16 table_48
 
   pub quarter-held : Held (tangent64 y k) (whole (2 ^ 121))
-  quarter-held = quotient-held (tanY y) (tableTangent k) (steps-held y H) E.fin limit (E.far o) (tangent-apart y H A)
+  quarter-held = quotient-held (tan_of_y y) (table_tangent k) (steps-held y H) E.fin limit (E.far o) (tangent_apart y H A)
 
   pub quarter-ahead : Ahead (value_of (tangent64 y k)) (whole k ⊕ value_of y)
   quarter-ahead =
-      together (value_of (tangent64 y k)) (value_of (tanY y)) (cosSeries a) (sinSeries a) (exactCosine (whole k)) (exactSine (whole k)) (exactCosine (whole k ⊕ value_of y)) (exactSine (whole k ⊕ value_of y))
-      (abs-size (value_of (tangent64 y k))) (steps-held y H).size (cos-one a (step-angle y H)) (sin-one a (step-angle y H)) (at-steps (λ i. Size (exactCosine (whole i)) (tiny 80)) 16 k l o cosine-16 cosine-48) (sine-at-most-one (whole k))
-      (quotient-unit (tanY y) (tableTangent k) (steps-held y H) E.fin limit (E.far o) (tangent-apart y H A))
+      together (value_of (tangent64 y k)) (value_of (tan_of_y y)) (cos_series a) (sin_series a) (exact_cosine (whole k)) (exact_sine (whole k)) (exact_cosine (whole k ⊕ value_of y)) (exact_sine (whole k ⊕ value_of y))
+      (abs-size (value_of (tangent64 y k))) (steps-held y H).size (cos_one a (step-angle y H)) (sin_one a (step-angle y H)) (at-steps (λ i. Size (exact_cosine (whole i)) (tiny 80)) 16 k l o cosine_16 cosine_48) (sine-at-most-one (whole k))
+      (quotient-unit (tan_of_y y) (table_tangent k) (steps-held y H) E.fin limit (E.far o) (tangent_apart y H A))
       (steps-near y H)
       (turn-cosine (whole k) (value_of y) (one-step y H)) (turn-sine (whole k) (value_of y) (one-step y H))

@@ -20,12 +20,12 @@ abbrev pub square : Exp
 square = times binary64 (arg 0) (arg 0)
 
 -- a b + c
-abbrev pub mlaE : Exp → Exp → Exp → Exp
-mlaE a b c = plus binary64 (times binary64 a b) c
+abbrev pub mla_e : Exp → Exp → Exp → Exp
+mla_e a b c = plus binary64 (times binary64 a b) c
 
 -- a b
-abbrev pub mulE : Exp → Exp → Exp
-mulE = times binary64
+abbrev pub mul_e : Exp → Exp → Exp
+mul_e = times binary64
 
 -- what the code means, as an expression
 abbrev pub meant : Exp → Expr
@@ -80,9 +80,9 @@ middle b = (b ⊗ b) ⊗ frac 1 2
 abbrev pub two : Fraction → Fraction → Env
 two y b = record { at = y; cap = b } ∷ record { at = y ⊗ y ⊖ middle b; cap = middle b } ∷ []
 
-pub about-middle : (y b : Fraction) → Size y b → Size (y ⊗ y ⊖ middle b) (middle b)
+pub about_middle : (y b : Fraction) → Size y b → Size (y ⊗ y ⊖ middle b) (middle b)
 unfolding same
-about-middle y b h =
+about_middle y b h =
     let ρ : Env = free y ∷ free b ∷ [] in
     let hs = le (minus (var 1)) (var 0) ∷ le (var 0) (var 1) ∷ [] in
     let m = (var 1 :* var 1) :* con (frac 1 2) in

@@ -6,22 +6,22 @@ use lib.Ieee.{Float, nan, inf, fin, up, down, binary32, of_bits, of_fields, odd,
 use lib.Ieee.Fits.{down_pos}
 use lib.Ieee.Scale.{finite}
 use Rattle.std.specs.Float.{is_sign_negative, float_with_sign}
-use Rattle.exact.specs.Fraction.{Fraction, ◌≈◌, ◌⊑◌, ◌⊕◌, ◌⊗◌, ◌⊖◌, neg, whole, tiny, Size, Within, leq, withinTest, sizeTest}
+use Rattle.exact.specs.Fraction.{Fraction, ◌≈◌, ◌⊑◌, ◌⊕◌, ◌⊗◌, ◌⊖◌, neg, whole, tiny, Size, Within, leq, within_test, size_test}
 use Rattle.exact.specs.Value.{value_of, Good}
 use Rattle.exact.specs.Multiple.{dif, Multiple}
 use Rattle.exact.proofs.Order.{by-test, ≈-refl, ≈-sym, ≈-trans, ⊗-cong, size-by-test, triangle, within-⊑, within-by-test, within-≈, within-sym, within-refl}
 use Rattle.exact.proofs.Multiple.{multiple-⊖, multiple-unit, multiple-trans, pw-multiple, one-pw}
-use Rattle.circle.specs.Circle.{step, quarter, exactSine, exactCosine, Alike}
-use Rattle.circle.specs.Series.{sinSeries, cosSeries}
+use Rattle.circle.specs.Circle.{step, quarter, exact_sine, exact_cosine, Alike}
+use Rattle.circle.specs.Series.{sin_series, cos_series}
 use Rattle.circle.proofs.Mirror.{alike-sine, alike-cosine}
-use Rattle.rounding.specs.Bits.{is_whole, isOdd}
+use Rattle.rounding.specs.Bits.{is_whole, is_odd}
 use Rattle.reducers.specs.Exact.{field}
 use Rattle.reducers.proofs.Radian.{word_of}
 use Rattle.reducers.proofs.Turns.{turns-alike}
 use Rattle.formulas.specs.Words.{zero_of}
 use Rattle.formulas.proofs.Ways.{unit}
 use Rattle.formulas.proofs.Narrowed.{short}
-use Rattle.formulas.proofs.Angles.{quartersOn, sine-quarters, cosine-quarters}
+use Rattle.formulas.proofs.Angles.{quarters_on, sine-quarters, cosine-quarters}
 use Rattle.formulas.proofs.Quarters.{turns-of}
 
 -- ---- which floats are whole
@@ -61,7 +61,7 @@ parity n d a c q b D e f B =
     last (suc zero) h = ap (λ z. eqb z d) (mod-eq_of_lt {n = 1 * d} {m = 2 * d} (omega arith)) ∙ eq-eqb (1 * d) d (omega arith)
     last (suc (suc b)) h = absurd (omega arith)
 
-odd-parity : (x : Float) → T (finite x) → (p m : ℕ) → value_of x ≈ dif p m ⊗ whole 1 → isOdd x ≡ eqb ((p + m) % 2) 1
+odd-parity : (x : Float) → T (finite x) → (p m : ℕ) → value_of x ≈ dif p m ⊗ whole 1 → is_odd x ≡ eqb ((p + m) % 2) 1
 odd-parity nan h p m e = absurd h
 odd-parity (inf s) h p m e = absurd h
 odd-parity (fin true n d) h p m e = parity (n * up d) (down d) m p ((p + m) / 2) ((p + m) % 2) (down_pos d) (go (n * up d) (down d) e.eq) (omega arith) (omega arith)
@@ -77,13 +77,13 @@ odd-parity (fin false n d) h p m e = parity (n * up d) (down d) p m ((p + m) / 2
 joined : (p m q b : ℕ) → p + m ≡ 2 * q + b → (whole 16 ⊗ whole (2 * b) ⊕ whole 0) ⊕ (whole 64 ⊗ whole q ⊖ whole 64 ⊗ whole m) ≈ whole 32 ⊗ (dif p m ⊗ whole 1)
 joined p m q b e = record { eq = omega arith }
 
-wholes-alike : (X : Fraction) (M : Multiple X (whole 1)) → Alike (quartersOn (2 * ((M.p + M.m) % 2)) (whole 0)) (whole 32 ⊗ X) (whole 0)
+wholes-alike : (X : Fraction) (M : Multiple X (whole 1)) → Alike (quarters_on (2 * ((M.p + M.m) % 2)) (whole 0)) (whole 32 ⊗ X) (whole 0)
 wholes-alike X M =
     let p = M.p in
     let m = M.m in
     let q = (p + m) / 2 in
     let b = (p + m) % 2 in
-    turns-alike (quartersOn (2 * b) (whole 0)) (whole 32 ⊗ X) (whole 0) (whole 64 ⊗ whole q ⊖ whole 64 ⊗ whole m) (multiple-⊖ (turns-of q) (turns-of m))
+    turns-alike (quarters_on (2 * b) (whole 0)) (whole 32 ⊗ X) (whole 0) (whole 64 ⊗ whole q ⊖ whole 64 ⊗ whole m) (multiple-⊖ (turns-of q) (turns-of m))
     (within-refl (≈-trans (joined p m q b (omega arith)) (⊗-cong (≈-refl (whole 32)) (≈-sym M.is))))
 
 -- ---- the exact values
@@ -95,34 +95,34 @@ unfolding leq step
 wholly-short = by-test {a = wholly} {b = short} tt
 
 no_size : Size (whole 0) (whole 8)
-unfolding sizeTest
+unfolding size_test
 no_size = size-by-test (whole 0) (whole 8) tt
 
-sine-0 : Within (whole 0) (quarter 0 (whole 0 ⊗ step)) (tiny 80)
-unfolding withinTest quarter sinSeries step
-sine-0 = within-by-test (whole 0) (quarter 0 (whole 0 ⊗ step)) (tiny 80) tt
+sine_0 : Within (whole 0) (quarter 0 (whole 0 ⊗ step)) (tiny 80)
+unfolding within_test quarter sin_series step
+sine_0 = within-by-test (whole 0) (quarter 0 (whole 0 ⊗ step)) (tiny 80) tt
 
-sine-2 : Within (whole 0) (quarter 2 (whole 0 ⊗ step)) (tiny 80)
-unfolding withinTest quarter sinSeries step
-sine-2 = within-by-test (whole 0) (quarter 2 (whole 0 ⊗ step)) (tiny 80) tt
+sine_2 : Within (whole 0) (quarter 2 (whole 0 ⊗ step)) (tiny 80)
+unfolding within_test quarter sin_series step
+sine_2 = within-by-test (whole 0) (quarter 2 (whole 0 ⊗ step)) (tiny 80) tt
 
-cosine-0 : Within (whole 1) (quarter 1 (whole 0 ⊗ step)) (tiny 80)
-unfolding withinTest quarter cosSeries step
-cosine-0 = within-by-test (whole 1) (quarter 1 (whole 0 ⊗ step)) (tiny 80) tt
+cosine_0 : Within (whole 1) (quarter 1 (whole 0 ⊗ step)) (tiny 80)
+unfolding within_test quarter cos_series step
+cosine_0 = within-by-test (whole 1) (quarter 1 (whole 0 ⊗ step)) (tiny 80) tt
 
-cosine-2 : Within (neg (whole 1)) (quarter 3 (whole 0 ⊗ step)) (tiny 80)
-unfolding withinTest quarter cosSeries step
-cosine-2 = within-by-test (neg (whole 1)) (quarter 3 (whole 0 ⊗ step)) (tiny 80) tt
+cosine_2 : Within (neg (whole 1)) (quarter 3 (whole 0 ⊗ step)) (tiny 80)
+unfolding within_test quarter cos_series step
+cosine_2 = within-by-test (neg (whole 1)) (quarter 3 (whole 0 ⊗ step)) (tiny 80) tt
 
 sine-at : (b : ℕ) → b < 2 → Within (whole 0) (quarter (2 * b) (whole 0 ⊗ step)) (tiny 80)
-sine-at zero h = sine-0
-sine-at (suc zero) h = sine-2
+sine-at zero h = sine_0
+sine-at (suc zero) h = sine_2
 sine-at (suc (suc b)) h = absurd (omega arith)
 
-sine-wholly : (X : Fraction) → Multiple X (whole 1) → Within (whole 0) (exactSine (whole 32 ⊗ X)) wholly
+sine-wholly : (X : Fraction) → Multiple X (whole 1) → Within (whole 0) (exact_sine (whole 32 ⊗ X)) wholly
 sine-wholly X M =
     let b = (M.p + M.m) % 2 in
-    triangle (triangle (sine-at b (omega arith)) (within-sym (sine-quarters (2 * b) (whole 0) no_size))) (alike-sine (quartersOn (2 * b) (whole 0)) (whole 32 ⊗ X) (whole 0) (wholes-alike X M))
+    triangle (triangle (sine-at b (omega arith)) (within-sym (sine-quarters (2 * b) (whole 0) no_size))) (alike-sine (quarters_on (2 * b) (whole 0)) (whole 32 ⊗ X) (whole 0) (wholes-alike X M))
 
 -- 1 or -1
 unit-value : Bool → Fraction
@@ -131,14 +131,14 @@ unit-value true = neg (whole 1)
 
 cosine-at : (b : ℕ) → b < 2 → Within (unit-value (eqb b 1)) (quarter (suc (2 * b)) (whole 0 ⊗ step)) (tiny 80)
 unfolding unit-value
-cosine-at zero h = cosine-0
-cosine-at (suc zero) h = cosine-2
+cosine-at zero h = cosine_0
+cosine-at (suc zero) h = cosine_2
 cosine-at (suc (suc b)) h = absurd (omega arith)
 
-cosine-wholly : (X : Fraction) (M : Multiple X (whole 1)) → Within (unit-value (eqb ((M.p + M.m) % 2) 1)) (exactCosine (whole 32 ⊗ X)) wholly
+cosine-wholly : (X : Fraction) (M : Multiple X (whole 1)) → Within (unit-value (eqb ((M.p + M.m) % 2) 1)) (exact_cosine (whole 32 ⊗ X)) wholly
 cosine-wholly X M =
     let b = (M.p + M.m) % 2 in
-    triangle (triangle (cosine-at b (omega arith)) (within-sym (cosine-quarters (2 * b) (whole 0) no_size))) (alike-cosine (quartersOn (2 * b) (whole 0)) (whole 32 ⊗ X) (whole 0) (wholes-alike X M))
+    triangle (triangle (cosine-at b (omega arith)) (within-sym (cosine-quarters (2 * b) (whole 0) no_size))) (alike-cosine (quarters_on (2 * b) (whole 0)) (whole 32 ⊗ X) (whole 0) (wholes-alike X M))
 
 -- ---- the answers
 pub zero_is : (t : Bool) → T (finite (float_with_sign t (of_bits binary32 0))) × (value_of (float_with_sign t (of_bits binary32 0)) ≈ whole 0)
@@ -151,10 +151,10 @@ unfolding unit-value negate of_bits of_fields odd count_trailing_zeros
 unit-is true = (tt, record { eq = refl })
 unit-is false = (tt, record { eq = refl })
 
-pub zero-wholly : (x y : Float) → Multiple (value_of x) (whole 1) → Good (zero_of y) (exactSine (whole 32 ⊗ value_of x)) short
-zero-wholly x y M = let z = zero_is (is_sign_negative y) in record { fin = z.0; near = within-⊑ wholly-short (within-≈ (≈-sym z.1) (≈-refl (exactSine (whole 32 ⊗ value_of x))) (sine-wholly (value_of x) M)) }
+pub zero-wholly : (x y : Float) → Multiple (value_of x) (whole 1) → Good (zero_of y) (exact_sine (whole 32 ⊗ value_of x)) short
+zero-wholly x y M = let z = zero_is (is_sign_negative y) in record { fin = z.0; near = within-⊑ wholly-short (within-≈ (≈-sym z.1) (≈-refl (exact_sine (whole 32 ⊗ value_of x))) (sine-wholly (value_of x) M)) }
 
-pub unit-wholly : (x : Float) → T (finite x) → Multiple (value_of x) (whole 1) → Good (unit (isOdd x)) (exactCosine (whole 32 ⊗ value_of x)) short
+pub unit-wholly : (x : Float) → T (finite x) → Multiple (value_of x) (whole 1) → Good (unit (is_odd x)) (exact_cosine (whole 32 ⊗ value_of x)) short
 unit-wholly x h M =
-    let z = unit-is (isOdd x) in
-    record { fin = z.0; near = within-⊑ wholly-short (within-≈ (≈-sym z.1) (≈-refl (exactCosine (whole 32 ⊗ value_of x))) (subst (λ t. Within (unit-value t) (exactCosine (whole 32 ⊗ value_of x)) wholly) (sym (odd-parity x h M.p M.m M.is)) (cosine-wholly (value_of x) M))) }
+    let z = unit-is (is_odd x) in
+    record { fin = z.0; near = within-⊑ wholly-short (within-≈ (≈-sym z.1) (≈-refl (exact_cosine (whole 32 ⊗ value_of x))) (subst (λ t. Within (unit-value t) (exact_cosine (whole 32 ⊗ value_of x)) wholly) (sym (odd-parity x h M.p M.m M.is)) (cosine-wholly (value_of x) M))) }

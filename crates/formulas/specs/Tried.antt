@@ -8,7 +8,7 @@ use Rattle.formulas.specs.HalfTurns.{sinpif, cospif, tanpif}
 -- zeros, one, a NaN for an infinity, whole numbers, halves and quarters; and rounding just below one half
 pub record Tried : Type 0 where
   pub sinf-minus-zero : on_word sinf 0x80000000 ≡ 0x80000000
-  pub sinf-infinity : on_word sinf 0x7f800000 ≡ 0x7fc00000
+  pub sinf_infinity : on_word sinf 0x7f800000 ≡ 0x7fc00000
   pub cosf-zero : on_word cosf 0 ≡ 0x3f800000
   pub sinpif-half : on_word sinpif 0x3f000000 ≡ 0x3f800000
   pub sinpif-minus-two : on_word sinpif 0xc0000000 ≡ 0x80000000

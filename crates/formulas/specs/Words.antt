@@ -2,7 +2,7 @@
 use Rattle.std.specs.Prelude.{ℕ, ◌%◌, ◌^◌, ℤ, from_bits, to_bits, Float}
 use Rattle.std.specs.Float.Ieee.{add, mul}
 use Rattle.std.specs.Float.{round_to_format, is_sign_negative, float_with_sign, binary32, binary64}
-use Rattle.reducers.specs.Exact.{modTurn}
+use Rattle.reducers.specs.Exact.{mod_turn}
 use Rattle.table.specs.Sines.{sine64, cosine64}
 use Rattle.table.specs.Tangents.{tangent64}
 
@@ -31,21 +31,21 @@ abbrev pub zero64 : Float
 zero64 = from_bits binary64 0
 
 -- -2 ^ -25
-abbrev pub minusTiny : Float
-minusTiny = from_bits binary64 0xbe60000000000000
+abbrev pub minus_tiny : Float
+minus_tiny = from_bits binary64 0xbe60000000000000
 
 -- zero with the sign of x
 abbrev pub zero_of : Float → Float
 zero_of x = float_with_sign (is_sign_negative x) (from_bits binary32 0)
 
 -- the sine of a reduced angle, its rest y and its steps k
-abbrev pub sineAt : Float × ℤ → Float
-sineAt r = sine64 r.0 (modTurn r.1)
+abbrev pub sine_at : Float × ℤ → Float
+sine_at r = sine64 r.0 (mod_turn r.1)
 
 -- the cosine
-abbrev pub cosineAt : Float × ℤ → Float
-cosineAt r = cosine64 r.0 (modTurn r.1)
+abbrev pub cosine_at : Float × ℤ → Float
+cosine_at r = cosine64 r.0 (mod_turn r.1)
 
 -- the tangent
-abbrev pub tangentAt : Float × ℤ → Float
-tangentAt r = tangent64 r.0 (modTurn r.1)
+abbrev pub tangent_at : Float × ℤ → Float
+tangent_at r = tangent64 r.0 (mod_turn r.1)

@@ -1,9 +1,9 @@
 // What the six functions compute, as definitions in specs/, and what is true of them.
 ghost use Rattle.std.specs.Prelude.{◌≡◌};
 ghost use Rattle.formulas.specs.Tried.{Tried};
-ghost use Rattle.formulas.specs.Polynomials.{Sine-series, Cosine-series, Tangent-series, Half-sine-series, Half-cosine-series, Quarter-sine-series, Quarter-cosine-series};
-ghost use Rattle.formulas.specs.Distance.{Radian-sine, Radian-cosine, Half-turn-sine, Half-turn-cosine, Not-finite};
-ghost use Rattle.formulas.specs.Tangent.{Radian-tangent, Half-turn-tangent, Tangents-not-finite};
+ghost use Rattle.formulas.specs.Polynomials.{SineSeries, CosineSeries, TangentSeries, HalfSineSeries, HalfCosineSeries, QuarterSineSeries, QuarterCosineSeries};
+ghost use Rattle.formulas.specs.Distance.{RadianSine, RadianCosine, HalfTurnSine, HalfTurnCosine, NotFinite};
+ghost use Rattle.formulas.specs.Tangent.{RadianTangent, HalfTurnTangent, TangentsNotFinite};
 
 // How many values stand in the table of tried ones.
 pub fn tried_values() -> u8
@@ -15,24 +15,24 @@ pub fn tried_values() -> u8
 
 // The polynomials of the six functions are near the series on the whole of their intervals.
 pub fn polynomials() -> u8
-    ensures sine { Sine-series }
-    ensures cosine { Cosine-series }
-    ensures tangent { Tangent-series }
-    ensures half_sine { Half-sine-series }
-    ensures half_cosine { Half-cosine-series }
-    ensures quarter_sine { Quarter-sine-series }
-    ensures quarter_cosine { Quarter-cosine-series }
+    ensures sine { SineSeries }
+    ensures cosine { CosineSeries }
+    ensures tangent { TangentSeries }
+    ensures half_sine { HalfSineSeries }
+    ensures half_cosine { HalfCosineSeries }
+    ensures quarter_sine { QuarterSineSeries }
+    ensures quarter_cosine { QuarterCosineSeries }
 {
     0
 }
 
 // The sines and cosines, at every word, are within half a spacing and 2^-36 of the exact ones.
 pub fn sine_distances() -> u8
-    ensures radian_sine { Radian-sine }
-    ensures radian_cosine { Radian-cosine }
-    ensures half_turn_sine { Half-turn-sine }
-    ensures half_turn_cosine { Half-turn-cosine }
-    ensures not_finite { Not-finite }
+    ensures radian_sine { RadianSine }
+    ensures radian_cosine { RadianCosine }
+    ensures half_turn_sine { HalfTurnSine }
+    ensures half_turn_cosine { HalfTurnCosine }
+    ensures not_finite { NotFinite }
 {
     0
 }
@@ -40,9 +40,9 @@ pub fn sine_distances() -> u8
 // The tangents, at every word: times the exact cosine within 2^-23 and a 2^-35 part of the answer of the exact sine;
 // infinite at halves of half turns alone.
 pub fn tangent_distances() -> u8
-    ensures radian { Radian-tangent }
-    ensures half_turn { Half-turn-tangent }
-    ensures not_finite { Tangents-not-finite }
+    ensures radian { RadianTangent }
+    ensures half_turn { HalfTurnTangent }
+    ensures not_finite { TangentsNotFinite }
 {
     0
 }

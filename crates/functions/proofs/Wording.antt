@@ -10,13 +10,13 @@ use Rattle.std.proofs.num.Patterns.{below_the_nans, bits_of_number}
 use Rattle.rounding.proofs.Narrows.{nearest-fits}
 use Rattle.rounding.proofs.Fields.{sign}
 use Rattle.rounding.proofs.Signs.{copied, bits-sign}
-use Rattle.rounding.specs.Bits.{wholeBits, oddBits}
-use Rattle.reducers.specs.Reduce.{reduce, reducePi, reduceQuarter}
-use Rattle.reducers.specs.Exact.{modTurn}
+use Rattle.rounding.specs.Bits.{whole_bits, odd_bits}
+use Rattle.reducers.specs.Reduce.{reduce, reduce_pi, reduce_quarter}
+use Rattle.reducers.specs.Exact.{mod_turn}
 use Rattle.table.specs.Tangents.{tangent64}
-use Rattle.formulas.specs.Words.{size_bits, fmla, narrowed, one, zero64, minusTiny, on_word, zero_of, sineAt, cosineAt, tangentAt}
-use Rattle.formulas.specs.Radians.{infinite, sinNear, cosNear, tanNear, sinf, cosOf, cosf, tanf}
-use Rattle.formulas.specs.HalfTurns.{pi, minusPi3Over6, pi3Over3, sinpiNear, cospiNear, sineBy, cosineBy, byQuarter, sinpif, cospiOf, cospif, tanpiBy, tanpiAt, tanpif}
+use Rattle.formulas.specs.Words.{size_bits, fmla, narrowed, one, zero64, minus_tiny, on_word, zero_of, sine_at, cosine_at, tangent_at}
+use Rattle.formulas.specs.Radians.{infinite, sin_near, cos_near, tan_near, sinf, cos_of, cosf, tanf}
+use Rattle.formulas.specs.HalfTurns.{pi, minus_pi3_over6, pi3_over3, sinpi_near, cospi_near, sine_by, cosine_by, by_quarter, sinpif, cospi_of, cospif, tanpi_by, tanpi_at, tanpif}
 
 -- ---- a finite word
 pub clean : (w : ℕ) → w % 2 ^ 31 < infinite → T (not (nan_bits binary32 w))
@@ -42,8 +42,8 @@ nan-size : infinite ≤ size_bits nan
 unfolding to_bits
 nan-size = lib.Dec.lit≤ tt
 
-pub size-not-finite : (w : ℕ) → w < 2 ^ 32 → infinite ≤ w % 2 ^ 31 → infinite ≤ size_bits (of_bits binary32 w)
-size-not-finite w l h = go (of_bits binary32 w) (is_nan (of_bits binary32 w)) refl refl
+pub size_not_finite : (w : ℕ) → w < 2 ^ 32 → infinite ≤ w % 2 ^ 31 → infinite ≤ size_bits (of_bits binary32 w)
+size_not_finite w l h = go (of_bits binary32 w) (is_nan (of_bits binary32 w)) refl refl
   where
     go : (x : Float) (t : Bool) → x ≡ of_bits binary32 w → is_nan x ≡ t → infinite ≤ size_bits x
     go x true e n = subst (λ z. infinite ≤ size_bits z) (sym (nan-only x n)) nan-size
@@ -120,18 +120,18 @@ either = cond-fits binary32
 
 sinf-fits : (x : Float) → T (fits binary32 x) → T (fits binary32 (sinf x))
 unfolding sinf
-sinf-fits x h = by-line (leb (size_bits x) 0x3e490fdb) (ltb (size_bits x) 0x39e89769) (eqb (size_bits x) 0) (leb infinite (size_bits x)) x (fmla x minusTiny x) (sinNear x) (sineAt (reduce x (size_bits x))) h
+sinf-fits x h = by-line (leb (size_bits x) 0x3e490fdb) (ltb (size_bits x) 0x39e89769) (eqb (size_bits x) 0) (leb infinite (size_bits x)) x (fmla x minus_tiny x) (sin_near x) (sine_at (reduce x (size_bits x))) h
 
 cosf-fits : (x : Float) → T (fits binary32 x) → T (fits binary32 (cosf x))
-unfolding cosOf
+unfolding cos_of
 cosf-fits x h =
     let w = size_bits x in
     let y = of_bits binary32 w in
-    by_two (leb w 0x3e490fdb) (ltb w 0x39800000) (leb infinite w) (fmla y minusTiny one) (cosNear y) (narrowed (cosineAt (reduce y w))) (nearest-fits binary32 (cosineAt (reduce y w)))
+    by_two (leb w 0x3e490fdb) (ltb w 0x39800000) (leb infinite w) (fmla y minus_tiny one) (cos_near y) (narrowed (cosine_at (reduce y w))) (nearest-fits binary32 (cosine_at (reduce y w)))
 
 tanf-fits : (x : Float) → T (fits binary32 x) → T (fits binary32 (tanf x))
 unfolding tanf
-tanf-fits x h = by-line (leb (size_bits x) 0x3dc90fdb) (ltb (size_bits x) 0x39800000) (eqb (size_bits x) 0) (leb infinite (size_bits x)) x (fmla x minusTiny x) (tanNear x) (tangentAt (reduce x (size_bits x))) h
+tanf-fits x h = by-line (leb (size_bits x) 0x3dc90fdb) (ltb (size_bits x) 0x39800000) (eqb (size_bits x) 0) (leb infinite (size_bits x)) x (fmla x minus_tiny x) (tan_near x) (tangent_at (reduce x (size_bits x))) h
 
 with-fits : (t : Bool) (x : Float) → T (fits binary32 x) → T (fits binary32 (float_with_sign t x))
 unfolding float_with_sign fits
@@ -146,7 +146,7 @@ zero-fits x = with-fits (is_sign_negative x) (of_bits binary32 0) (of_bits-fits 
 sinpif-fits : (x : Float) → T (fits binary32 x) → T (fits binary32 (sinpif x))
 unfolding sinpif
 sinpif-fits x h =
-    by_three (leb (size_bits x) 0x3d800000) (ltb (size_bits x) 0x35802126) (eqb (size_bits x) 0) (leb infinite (size_bits x)) (leb 0x4b000000 (size_bits x) || wholeBits x) x (mul binary64 x (fmla (mul binary64 x x) minusPi3Over6 pi)) (sinpiNear x) (zero_of x) (byQuarter sineBy (reduceQuarter x)) h (zero-fits x)
+    by_three (leb (size_bits x) 0x3d800000) (ltb (size_bits x) 0x35802126) (eqb (size_bits x) 0) (leb infinite (size_bits x)) (leb 0x4b000000 (size_bits x) || whole_bits x) x (mul binary64 x (fmla (mul binary64 x x) minus_pi3_over6 pi)) (sinpi_near x) (zero_of x) (by_quarter sine_by (reduce_quarter x)) h (zero-fits x)
 
 one-fits : T (fits binary32 (of_bits binary32 0x3f800000))
 one-fits = of_bits-fits binary32 0x3f800000
@@ -155,27 +155,27 @@ minus-fits : T (fits binary32 (neg (of_bits binary32 0x3f800000)))
 minus-fits = neg-fits binary32 (of_bits binary32 0x3f800000) one-fits
 
 cospif-fits : (x : Float) → T (fits binary32 x) → T (fits binary32 (cospif x))
-unfolding cospiOf
+unfolding cospi_of
 cospif-fits x h =
     let w = size_bits x in
     let y = of_bits binary32 w in
     let u = neg (of_bits binary32 0x3f800000) in
     let v = of_bits binary32 0x3f800000 in
-    let r = byQuarter cosineBy (reduceQuarter y) in
-    by_two (leb w 0x3d800000) (ltb w 0x38a2f984) (leb infinite w) (fmla y minusTiny one) (cospiNear y) (cond (leb 0x4b000000 w || wholeBits y) (cond (oddBits y) u v) (narrowed r))
-    (either (leb 0x4b000000 w || wholeBits y) (cond (oddBits y) u v) (narrowed r) (either (oddBits y) u v minus-fits one-fits) (nearest-fits binary32 r))
+    let r = by_quarter cosine_by (reduce_quarter y) in
+    by_two (leb w 0x3d800000) (ltb w 0x38a2f984) (leb infinite w) (fmla y minus_tiny one) (cospi_near y) (cond (leb 0x4b000000 w || whole_bits y) (cond (odd_bits y) u v) (narrowed r))
+    (either (leb 0x4b000000 w || whole_bits y) (cond (odd_bits y) u v) (narrowed r) (either (odd_bits y) u v minus-fits one-fits) (nearest-fits binary32 r))
 
-by_fits : (x y : Float) (k : ℕ) → T (fits binary32 (tanpiBy x y k))
-unfolding tanpiBy
+by_fits : (x y : Float) (k : ℕ) → T (fits binary32 (tanpi_by x y k))
+unfolding tanpi_by
 by_fits x y k =
-    let a = mul binary64 (fmla (mul binary64 x x) pi3Over3 pi) x in
+    let a = mul binary64 (fmla (mul binary64 x x) pi3_over3 pi) x in
     either (ltb (size_bits x) 0x38d1b717) (narrowed a) (narrowed (tangent64 y k)) (nearest-fits binary32 a) (nearest-fits binary32 (tangent64 y k))
 
-at-fits : (x y : Float) (k : ℕ) → T (fits binary32 (tanpiAt x y k))
-unfolding tanpiAt
+at-fits : (x y : Float) (k : ℕ) → T (fits binary32 (tanpi_at x y k))
+unfolding tanpi_at
 at-fits x y k = go (eq y zero64 && eqb (k % 32) 0) (eq y zero64 && eqb (k % 32) 16) (eq y zero64 && eqb (k % 32) 8) (eq y zero64 && eqb (k % 32) 24)
   where
-    go : (a b c d : Bool) → T (fits binary32 (cond a (cond (leb 32 k) (neg (zero_of x)) (zero_of x)) (cond b (inf (leb 32 k)) (cond c (of_bits binary32 0x3f800000) (cond d (neg (of_bits binary32 0x3f800000)) (tanpiBy x y k))))))
+    go : (a b c d : Bool) → T (fits binary32 (cond a (cond (leb 32 k) (neg (zero_of x)) (zero_of x)) (cond b (inf (leb 32 k)) (cond c (of_bits binary32 0x3f800000) (cond d (neg (of_bits binary32 0x3f800000)) (tanpi_by x y k))))))
     go true b c d = either (leb 32 k) (neg (zero_of x)) (zero_of x) (neg-fits binary32 (zero_of x) (zero-fits x)) (zero-fits x)
     go false true c d = inf-fits binary32 (leb 32 k)
     go false false true d = one-fits
@@ -185,9 +185,9 @@ at-fits x y k = go (eq y zero64 && eqb (k % 32) 0) (eq y zero64 && eqb (k % 32) 
 tanpif-fits : (x : Float) → T (fits binary32 x) → T (fits binary32 (tanpif x))
 unfolding tanpif
 tanpif-fits x h =
-    let r = reducePi x in
-    let t = tanpiAt x r.0 (modTurn r.1) in
-    either (leb infinite (size_bits x)) nan (cond (leb 0x4b800000 (size_bits x)) (zero_of x) t) (nan-fits binary32) (either (leb 0x4b800000 (size_bits x)) (zero_of x) t (zero-fits x) (at-fits x r.0 (modTurn r.1)))
+    let r = reduce_pi x in
+    let t = tanpi_at x r.0 (mod_turn r.1) in
+    either (leb infinite (size_bits x)) nan (cond (leb 0x4b800000 (size_bits x)) (zero_of x) t) (nan-fits binary32) (either (leb 0x4b800000 (size_bits x)) (zero_of x) t (zero-fits x) (at-fits x r.0 (mod_turn r.1)))
 
 -- ---- from floats to words and back
 on-float : (f : Float → Float) → ((x : Float) → T (fits binary32 x) → T (fits binary32 (f x))) → (x r : Float) (a b : ℕ) → T (fits binary32 x) → a ≡ to_bits binary32 x → b ≡ on_word f a → r ≡ of_bits binary32 b → r ≡ f x

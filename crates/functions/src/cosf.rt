@@ -1,10 +1,10 @@
 ghost use Rattle.std.specs.Prelude.{◌≡◌};
 ghost use Rattle.reducers.specs.Reduce.{reduce as reduced};
-ghost use Rattle.circle.specs.Circle.{exactCosine};
+ghost use Rattle.circle.specs.Circle.{exact_cosine};
 ghost use Rattle.formulas.specs.Distance.{Near};
-ghost use Rattle.reducers.specs.Exact.{radianSteps};
-ghost use Rattle.formulas.specs.Words.{cosineAt, on_word};
-ghost use Rattle.formulas.specs.Radians.{cosNear, cosf};
+ghost use Rattle.reducers.specs.Exact.{radian_steps};
+ghost use Rattle.formulas.specs.Words.{cosine_at, on_word};
+ghost use Rattle.formulas.specs.Radians.{cos_near, cosf};
 
 use crate::word::{INFINITE, NAN, SIGN, widened};
 use forms::f_polyeval5;
@@ -15,7 +15,7 @@ use table::{cosine, sincosf_eval};
 
 // For |x| <= pi/16, by even powers up to 8.
 fn cos_near(xd: f64) -> f64
-    ensures { result ≡ cosNear xd }
+    ensures { result ≡ cos_near xd }
 {
     let x2 = xd * xd;
     f_polyeval5(
@@ -30,7 +30,7 @@ fn cos_near(xd: f64) -> f64
 
 // cos(x) = cos((k + y)*pi/32), by the table.
 fn cos_by_table(x: f64, x_abs: u32) -> f64
-    ensures { result ≡ cosineAt (reduced x x_abs) }
+    ensures { result ≡ cosine_at (reduced x x_abs) }
 {
     let reducer = ArgumentReducer { x, x_abs };
     // The small pass, which is the common one, stands in place.
@@ -67,7 +67,7 @@ pub(crate) fn cosf_gen_impl(word: u32) -> u32
 // The cosine of x radians, within half a spacing at the answer and 2^-36 of the exact one.
 pub fn f_cosf(x: f32) -> f32
     ensures is { result ≡ cosf x }
-    ensures near { Near x result (exactCosine (radianSteps x)) }
+    ensures near { Near x result (exact_cosine (radian_steps x)) }
 {
     f32_from_bits_with_nan(cosf_gen_impl(f32_to_bits_with_nan(x)))
 }

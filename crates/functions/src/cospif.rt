@@ -1,9 +1,9 @@
 ghost use Rattle.std.specs.Prelude.{◌≡◌};
-ghost use Rattle.reducers.specs.Reduce.{reduceQuarter};
-ghost use Rattle.circle.specs.Circle.{exactCosine};
-ghost use Rattle.formulas.specs.Distance.{Near, halfTurnSteps};
+ghost use Rattle.reducers.specs.Reduce.{reduce_quarter};
+ghost use Rattle.circle.specs.Circle.{exact_cosine};
+ghost use Rattle.formulas.specs.Distance.{Near, half_turn_steps};
 ghost use Rattle.formulas.specs.Words.{on_word};
-ghost use Rattle.formulas.specs.HalfTurns.{cospiNear, cosineBy, byQuarter, cospif};
+ghost use Rattle.formulas.specs.HalfTurns.{cospi_near, cosine_by, by_quarter, cospif};
 
 use crate::sincosf_eval::{cospif_eval, sinpif_eval};
 use crate::word::{INFINITE, NAN, SIGN, widened};
@@ -20,7 +20,7 @@ const MINUS_ONE: u32 = 0xbf80_0000;
 
 // For |x| <= 1/16, by even powers up to 8.
 fn cospi_near(xd: f64) -> f64
-    ensures { result ≡ cospiNear xd }
+    ensures { result ≡ cospi_near xd }
 {
     let x2 = xd * xd;
     f_polyeval5(
@@ -35,7 +35,7 @@ fn cospi_near(xd: f64) -> f64
 
 // By quarter turns: the kernel is chosen by the quadrant. At odd halves the zero is positive.
 fn cospi_by_quarter(x: f64) -> f64
-    ensures { result ≡ byQuarter cosineBy (reduceQuarter x) }
+    ensures { result ≡ by_quarter cosine_by (reduce_quarter x) }
 {
     let (y, k) = ArgumentReducerPi { x }.reduce_0p25();
     match step_of(k) % 4 {
@@ -77,7 +77,7 @@ pub(crate) fn cospif_gen_impl(word: u32) -> u32
 // The cosine of x half turns, cos(pi*x), within half a spacing at the answer and 2^-36 of the exact one.
 pub fn f_cospif(x: f32) -> f32
     ensures is { result ≡ cospif x }
-    ensures near { Near x result (exactCosine (halfTurnSteps x)) }
+    ensures near { Near x result (exact_cosine (half_turn_steps x)) }
 {
     f32_from_bits_with_nan(cospif_gen_impl(f32_to_bits_with_nan(x)))
 }

@@ -1,11 +1,11 @@
 ghost use Rattle.std.specs.Prelude.{◌≡◌};
-ghost use Rattle.formulas.specs.HalfTurns.{sinpiY, cospiY};
+ghost use Rattle.formulas.specs.HalfTurns.{sinpi_y, cospi_y};
 
 use forms::{f_estrin_polyeval7, f_polyeval6};
 
 // sin(pi*y) on [-0.25; 0.25], by even powers of sin(pi*y)/y up to 10.
 pub fn sinpif_eval(y: f64) -> f64
-    ensures { result ≡ sinpiY y }
+    ensures { result ≡ sinpi_y y }
 {
     let y2 = y * y;
     f_polyeval6(
@@ -21,7 +21,7 @@ pub fn sinpif_eval(y: f64) -> f64
 
 // cos(pi*y) on [-0.25; 0.25], by even powers up to 12.
 pub fn cospif_eval(y: f64) -> f64
-    ensures { result ≡ cospiY y }
+    ensures { result ≡ cospi_y y }
 {
     let y2 = y * y;
     f_estrin_polyeval7(

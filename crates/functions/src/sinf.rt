@@ -1,10 +1,10 @@
 ghost use Rattle.std.specs.Prelude.{◌≡◌};
 ghost use Rattle.reducers.specs.Reduce.{reduce as reduced};
-ghost use Rattle.circle.specs.Circle.{exactSine};
+ghost use Rattle.circle.specs.Circle.{exact_sine};
 ghost use Rattle.formulas.specs.Distance.{Near};
-ghost use Rattle.reducers.specs.Exact.{radianSteps};
-ghost use Rattle.formulas.specs.Words.{sineAt, on_word};
-ghost use Rattle.formulas.specs.Radians.{sinNear, sinf};
+ghost use Rattle.reducers.specs.Exact.{radian_steps};
+ghost use Rattle.formulas.specs.Words.{sine_at, on_word};
+ghost use Rattle.formulas.specs.Radians.{sin_near, sinf};
 
 use crate::word::{INFINITE, NAN, SIGN, widened};
 use forms::f_polyeval5;
@@ -15,7 +15,7 @@ use table::{sincosf_eval, sine};
 
 // For |x| <= pi/16, by even powers of sin(x)/x up to 8.
 fn sin_near(xd: f64) -> f64
-    ensures { result ≡ sinNear xd }
+    ensures { result ≡ sin_near xd }
 {
     let xsqr = xd * xd;
     let p = f_polyeval5(
@@ -31,7 +31,7 @@ fn sin_near(xd: f64) -> f64
 
 // sin(x) = sin((k + y)*pi/32), by the table.
 fn sin_by_table(x: f64, x_abs: u32) -> f64
-    ensures { result ≡ sineAt (reduced x x_abs) }
+    ensures { result ≡ sine_at (reduced x x_abs) }
 {
     let reducer = ArgumentReducer { x, x_abs };
     // The small pass, which is the common one, stands in place.
@@ -72,7 +72,7 @@ pub(crate) fn sinf_gen_impl(word: u32) -> u32
 // The sine of x radians, within half a spacing at the answer and 2^-36 of the exact one.
 pub fn f_sinf(x: f32) -> f32
     ensures is { result ≡ sinf x }
-    ensures near { Near x result (exactSine (radianSteps x)) }
+    ensures near { Near x result (exact_sine (radian_steps x)) }
 {
     f32_from_bits_with_nan(sinf_gen_impl(f32_to_bits_with_nan(x)))
 }

@@ -1,9 +1,9 @@
 ghost use Rattle.std.specs.Prelude.{◌≡◌};
-ghost use Rattle.reducers.specs.Reduce.{reduceQuarter};
-ghost use Rattle.circle.specs.Circle.{exactSine};
-ghost use Rattle.formulas.specs.Distance.{Near, halfTurnSteps};
+ghost use Rattle.reducers.specs.Reduce.{reduce_quarter};
+ghost use Rattle.circle.specs.Circle.{exact_sine};
+ghost use Rattle.formulas.specs.Distance.{Near, half_turn_steps};
 ghost use Rattle.formulas.specs.Words.{on_word};
-ghost use Rattle.formulas.specs.HalfTurns.{sinpiNear, sineBy, byQuarter, sinpif};
+ghost use Rattle.formulas.specs.HalfTurns.{sinpi_near, sine_by, by_quarter, sinpif};
 
 use crate::sincosf_eval::{cospif_eval, sinpif_eval};
 use crate::word::{INFINITE, NAN, SIGN, widened, zero_like};
@@ -15,7 +15,7 @@ use std::num::{f32_from_bits_with_nan, f32_to_bits_with_nan};
 
 // For |x| <= 1/16, by even powers of sin(pi*x)/x up to 8.
 fn sinpi_near(xd: f64) -> f64
-    ensures { result ≡ sinpiNear xd }
+    ensures { result ≡ sinpi_near xd }
 {
     let xsqr = xd * xd;
     let p = f_polyeval5(
@@ -31,7 +31,7 @@ fn sinpi_near(xd: f64) -> f64
 
 // By quarter turns: the kernel is chosen by the quadrant.
 fn sinpi_by_quarter(x: f64) -> f64
-    ensures { result ≡ byQuarter sineBy (reduceQuarter x) }
+    ensures { result ≡ by_quarter sine_by (reduce_quarter x) }
 {
     let (y, k) = ArgumentReducerPi { x }.reduce_0p25();
     match step_of(k) % 4 {
@@ -81,7 +81,7 @@ pub(crate) fn sinpif_gen_impl(word: u32) -> u32
 // The sine of x half turns, sin(pi*x), within half a spacing at the answer and 2^-36 of the exact one.
 pub fn f_sinpif(x: f32) -> f32
     ensures is { result ≡ sinpif x }
-    ensures near { Near x result (exactSine (halfTurnSteps x)) }
+    ensures near { Near x result (exact_sine (half_turn_steps x)) }
 {
     f32_from_bits_with_nan(sinpif_gen_impl(f32_to_bits_with_nan(x)))
 }

@@ -1,9 +1,9 @@
 ghost use Rattle.std.specs.Prelude.{◌≡◌};
 ghost use Rattle.reducers.specs.Reduce.{reduce as reduced};
-ghost use Rattle.formulas.specs.Words.{tangentAt, on_word};
-ghost use Rattle.reducers.specs.Exact.{radianSteps};
-ghost use Rattle.formulas.specs.Radians.{tanNear, tanf};
-ghost use Rattle.formulas.specs.Tangent.{Near-tangent};
+ghost use Rattle.formulas.specs.Words.{tangent_at, on_word};
+ghost use Rattle.reducers.specs.Exact.{radian_steps};
+ghost use Rattle.formulas.specs.Radians.{tan_near, tanf};
+ghost use Rattle.formulas.specs.Tangent.{NearTangent};
 
 use crate::word::{INFINITE, NAN, SIGN, widened};
 use forms::f_polyeval5;
@@ -14,7 +14,7 @@ use table::tangent::{tanf_eval, tangent};
 
 // For |x| <= pi/32, by even powers of tan(x)/x up to 8.
 fn tan_near(xd: f64) -> f64
-    ensures { result ≡ tanNear xd }
+    ensures { result ≡ tan_near xd }
 {
     let xsqr = xd * xd;
     let p = f_polyeval5(
@@ -30,7 +30,7 @@ fn tan_near(xd: f64) -> f64
 
 // tan(x) = tan((k + y)*pi/32), by the table.
 fn tan_by_table(x: f64, x_abs: u32) -> f64
-    ensures { result ≡ tangentAt (reduced x x_abs) }
+    ensures { result ≡ tangent_at (reduced x x_abs) }
 {
     let reducer = ArgumentReducer { x, x_abs };
     // The small pass, which is the common one, stands in place.
@@ -69,7 +69,7 @@ pub(crate) fn tanf_gen_impl(word: u32) -> u32
 // The tangent of x radians: never infinite, and times the exact cosine near the exact sine.
 pub fn f_tanf(x: f32) -> f32
     ensures is { result ≡ tanf x }
-    ensures near { Near-tangent x result (radianSteps x) }
+    ensures near { NearTangent x result (radian_steps x) }
 {
     f32_from_bits_with_nan(tanf_gen_impl(f32_to_bits_with_nan(x)))
 }

@@ -2,8 +2,8 @@ ghost use Rattle.std.specs.Prelude.{◌≡◌, ◌%◌, ◌^◌, ◌<◌, from_b
 ghost use Rattle.std.specs.Float.{binary32};
 ghost use Rattle.formulas.specs.Words.{on_word};
 ghost use Rattle.formulas.specs.Radians.{infinite};
-ghost use Rattle.formulas.specs.HalfTurns.{tanpiBy, tanpiAt, tanpif};
-ghost use Rattle.formulas.specs.Tangent.{Half-or-near};
+ghost use Rattle.formulas.specs.HalfTurns.{tanpi_by, tanpi_at, tanpif};
+ghost use Rattle.formulas.specs.Tangent.{HalfOrNear};
 
 use crate::word::{INFINITE, NAN, SIGN, widened, zero_like, zero_unlike};
 use reducers::pi::ArgumentReducerPi;
@@ -16,7 +16,7 @@ use table::tangent::{tanf_eval, tangent};
 fn tanpi_by_table(word: u32, y: f64, k: u8) -> u32
     requires finite { word % 2 ^ 31 < infinite }
     requires turn { k < 64 }
-    ensures { result ≡ to_bits binary32 (tanpiBy (from_bits binary32 word) y k) }
+    ensures { result ≡ to_bits binary32 (tanpi_by (from_bits binary32 word) y k) }
 {
     // |x| < 0.0001
     if word % SIGN < 0x38d1_b717 {
@@ -36,7 +36,7 @@ fn tanpi_by_table(word: u32, y: f64, k: u8) -> u32
 fn tanpi_at(word: u32, y: f64, k: u8) -> u32
     requires finite { word % 2 ^ 31 < infinite }
     requires turn { k < 64 }
-    ensures { result ≡ to_bits binary32 (tanpiAt (from_bits binary32 word) y k) }
+    ensures { result ≡ to_bits binary32 (tanpi_at (from_bits binary32 word) y k) }
 {
     if y == 0.0 {
         let is_odd = k >= 32;
@@ -74,7 +74,7 @@ pub(crate) fn tanpif_gen_impl(word: u32) -> u32
 // The tangent of x half turns: infinite at whole numbers and a half alone, and times the exact cosine near the exact sine.
 pub fn f_tanpif(x: f32) -> f32
     ensures is { result ≡ tanpif x }
-    ensures near { Half-or-near x result }
+    ensures near { HalfOrNear x result }
 {
     f32_from_bits_with_nan(tanpif_gen_impl(f32_to_bits_with_nan(x)))
 }

@@ -4,28 +4,28 @@ use mathlib.Core.List.Permᴰ
 use Rattle.std.specs.List.{ContainsAt as Has, HoldsAt, AllByRecursion as All}
 use Rattle.std.proofs.lemmas.List.Sums.{sum_by-cons}
 use Rattle.std.proofs.lemmas.Bool.{eq-eqb, or_left, or_right, and_parts, not-true}
-use Rattle.exact.specs.Fraction.{Fraction, ◌⊑◌, ◌⊕◌, ◌⊗◌, whole, Size, Within, leq, sizeTest}
+use Rattle.exact.specs.Fraction.{Fraction, ◌⊑◌, ◌⊕◌, ◌⊗◌, whole, Size, Within, leq, size_test}
 use Rattle.exact.proofs.Order.{≈-refl, ≈-sym, ⊗-comm, by-test, size-by-test, triangle, within-⊑, within-≈, within-sym, within-mul-right}
-use Rattle.circle.specs.Circle.{step, exactSine, exactCosine, Steady-alike}
+use Rattle.circle.specs.Circle.{step, exact_sine, exact_cosine, SteadyAlike}
 use Rattle.circle.proofs.Mirror.{alike-sine, alike-cosine}
 use Rattle.readers.specs.Meaning.{Steps}
 use Rattle.sheets.specs.declared.book.Call.{Call}
 use Rattle.sheets.specs.declared.book.Entry.{Entry}
 use Rattle.sheets.specs.declared.row.Row.{Row}
 use Rattle.sheets.specs.Rows.{samples, among, distinct}
-use Rattle.sheets.specs.Book.{given, standingAfter}
+use Rattle.sheets.specs.Book.{given, standing_after}
 use Rattle.sheets.specs.Sheets.{InAnyOrder}
 use Rattle.sheets.proofs.Orders.{distinct-order}
-use Rattle.sheets.proofs.Sums.{sumBy-order}
-use Rattle.law.specs.Law.{plain, cms, ofSteps, sumF, exactTotal, Agree, Matched, SameMotion}
-use Rattle.law.proofs.Sums.{sumF-order, times-apart, add_apart, none_apart}
+use Rattle.sheets.proofs.Sums.{sum_by-order}
+use Rattle.law.specs.Law.{plain, cms, of_steps, sum_f, exact_total, Agree, Matched, SameMotion}
+use Rattle.law.proofs.Sums.{sum_f-order, times-apart, add_apart, none_apart}
 
 -- ---- one row
 scale-size : Size (whole (2 ^ 30)) (whole (2 ^ 30))
-unfolding sizeTest
+unfolding size_test
 scale-size = size-by-test (whole (2 ^ 30)) (whole (2 ^ 30)) tt
 
-agree-apart : (f : Fraction → Fraction) → Steady-alike f → (o p : Steps) → Agree o p → Within (whole (2 ^ 30) ⊗ ofSteps f o) (whole (2 ^ 30) ⊗ ofSteps f p) (whole 805)
+agree-apart : (f : Fraction → Fraction) → SteadyAlike f → (o p : Steps) → Agree o p → Within (whole (2 ^ 30) ⊗ of_steps f o) (whole (2 ^ 30) ⊗ of_steps f p) (whole 805)
 unfolding step leq
 -- 2 ^ 30 × (2 ^ -17 × step + 2 ^ -70) is at most 805
 agree-apart f steady (Some u) (Some v) a = within-⊑ (by-test tt) (within-≈ (⊗-comm (f u) (whole (2 ^ 30))) (⊗-comm (f v) (whole (2 ^ 30))) (within-mul-right (steady u v _ a) scale-size))
@@ -67,16 +67,16 @@ out x [] h = absurd h
 out x (y ∷ ys) (inl p) = (ys, Permᴰ.cons (sym p) (Permᴰ.refl ys))
 out x (y ∷ ys) (inr h) = let r = out x ys h in (y ∷ r.0, Permᴰ.trans (Permᴰ.cons refl r.1) (Permᴰ.swap refl refl))
 
-in-given : (e : Entry) (es : List Entry) → In e es → among e.sample (given es) ≡ true
+in_given : (e : Entry) (es : List Entry) → In e es → among e.sample (given es) ≡ true
 unfolding In
-in-given e [] h = absurd h
-in-given e (f ∷ es) (inl p) = or_left (eqb e.sample f.sample) (among e.sample (given es)) (eq-eqb e.sample f.sample (ap (λ (x : Entry). x.sample) p))
-in-given e (f ∷ es) (inr h) = or_right (eqb e.sample f.sample) (among e.sample (given es)) (in-given e es h)
+in_given e [] h = absurd h
+in_given e (f ∷ es) (inl p) = or_left (eqb e.sample f.sample) (among e.sample (given es)) (eq-eqb e.sample f.sample (ap (λ (x : Entry). x.sample) p))
+in_given e (f ∷ es) (inr h) = or_right (eqb e.sample f.sample) (among e.sample (given es)) (in_given e es h)
 
 twice : (e f : Entry) (es : List Entry) → distinct (given (f ∷ es)) ≡ true → In e es → e.sample ≡ f.sample → ⊥
 twice e f es d h q =
     let p = and_parts (not (among f.sample (given es))) (distinct (given es)) d in
-    let a : true ≡ false = sym (in-given e es h) ∙ ap (λ s. among s (given es)) q ∙ not-true _ p.0 in
+    let a : true ≡ false = sym (in_given e es h) ∙ ap (λ s. among s (given es)) q ∙ not-true _ p.0 in
     let z : ◌≡◌ {A = ℕ} 0 1 = cc in omega arith
 
 -- ---- rows that match
@@ -105,29 +105,29 @@ pairs-from : (one other : ℕ → Steps) (es fs gs : List Entry) → InAnyOrder 
 pairs-from one other es fs gs o m x h = m x (in_order x (Permᴰ.symm o) h)
 
 -- the exact totals of two books that match
-books-apart : (f : Fraction → Fraction) → Steady-alike f → (one other : ℕ → Steps) (es fs : List Entry)
+books_apart : (f : Fraction → Fraction) → SteadyAlike f → (one other : ℕ → Steps) (es fs : List Entry)
     → distinct (given es) ≡ true → distinct (given fs) ≡ true → Pairs one other es fs → Pairs other one fs es
-    → (cms fs ≡ cms es) × Within (exactTotal f one es) (exactTotal f other fs) (whole (805 * cms es))
+    → (cms fs ≡ cms es) × Within (exact_total f one es) (exact_total f other fs) (whole (805 * cms es))
 unfolding In
-books-apart f steady one other [] [] d d' m m' = (refl, none_apart 805)
-books-apart f steady one other [] (y ∷ ys) d d' m m' = absurd (m' y (inl refl)).1
-books-apart f steady one other (x ∷ xs) fs d d' m m' =
+books_apart f steady one other [] [] d d' m m' = (refl, none_apart 805)
+books_apart f steady one other [] (y ∷ ys) d d' m m' = absurd (m' y (inl refl)).1
+books_apart f steady one other (x ∷ xs) fs d d' m m' =
     let r = m x (inl refl) in
     let y : Entry = r.0 in
     let o = out y fs r.1 in
     let ys : List Entry = o.0 in
     let dy : distinct (given (y ∷ ys)) ≡ true = sym (distinct-order (Permᴰ.map (λ (e : Entry). e.sample) o.1)) ∙ d' in
-    let ih = books-apart f steady one other xs ys (and_parts (not (among x.sample (given xs))) (distinct (given xs)) d).1 (and_parts (not (among y.sample (given ys))) (distinct (given ys)) dy).1
+    let ih = books_apart f steady one other xs ys (and_parts (not (among x.sample (given xs))) (distinct (given xs)) d).1 (and_parts (not (among y.sample (given ys))) (distinct (given ys)) dy).1
     (rest one other x y xs ys d r.2 (pairs-to one other (x ∷ xs) fs (y ∷ ys) o.1 m))
     (rest other one y x ys xs dy (sym r.2) (pairs-from other one fs (x ∷ xs) (y ∷ ys) o.1 m')) in
-    let F : Entry → Fraction = λ e. whole e.speed ⊗ (whole (2 ^ 30) ⊗ ofSteps f (one e.word)) in
-    let G : Entry → Fraction = λ e. whole e.speed ⊗ (whole (2 ^ 30) ⊗ ofSteps f (other e.word)) in
+    let F : Entry → Fraction = λ e. whole e.speed ⊗ (whole (2 ^ 30) ⊗ of_steps f (one e.word)) in
+    let G : Entry → Fraction = λ e. whole e.speed ⊗ (whole (2 ^ 30) ⊗ of_steps f (other e.word)) in
     let a : Within (F x) (G y) (whole (805 * x.speed)) =
-    subst (λ n. Within (F x) (whole n ⊗ (whole (2 ^ 30) ⊗ ofSteps f (other y.word))) (whole (805 * x.speed))) (sym r.3)
-    (times-apart 805 x.speed (whole (2 ^ 30) ⊗ ofSteps f (one x.word)) (whole (2 ^ 30) ⊗ ofSteps f (other y.word)) (agree-apart f steady (one x.word) (other y.word) r.4)) in
-    let b = add_apart 805 x.speed (cms xs) (cms (x ∷ xs)) (F x) (G y) (sumF F xs) (sumF G ys) (sum_by-cons (λ (e : Entry). e.speed) x xs) a ih.1 in (
-      sumBy-order (λ (e : Entry). e.speed) o.1 ∙ sum_by-cons (λ (e : Entry). e.speed) y ys ∙ ap (λ n. n + cms ys) r.3 ∙ ap (λ n. x.speed + n) ih.0 ∙ sym (sum_by-cons (λ (e : Entry). e.speed) x xs),
-      within-≈ (≈-refl (sumF F (x ∷ xs))) (≈-sym (sumF-order G o.1)) b,
+    subst (λ n. Within (F x) (whole n ⊗ (whole (2 ^ 30) ⊗ of_steps f (other y.word))) (whole (805 * x.speed))) (sym r.3)
+    (times-apart 805 x.speed (whole (2 ^ 30) ⊗ of_steps f (one x.word)) (whole (2 ^ 30) ⊗ of_steps f (other y.word)) (agree-apart f steady (one x.word) (other y.word) r.4)) in
+    let b = add_apart 805 x.speed (cms xs) (cms (x ∷ xs)) (F x) (G y) (sum_f F xs) (sum_f G ys) (sum_by-cons (λ (e : Entry). e.speed) x xs) a ih.1 in (
+      sum_by-order (λ (e : Entry). e.speed) o.1 ∙ sum_by-cons (λ (e : Entry). e.speed) y ys ∙ ap (λ n. n + cms ys) r.3 ∙ ap (λ n. x.speed + n) ih.0 ∙ sym (sum_by-cons (λ (e : Entry). e.speed) x xs),
+      within-≈ (≈-refl (sum_f F (x ∷ xs))) (≈-sym (sum_f-order G o.1)) b,
     )
 
 -- ---- the totals: 33 + 805 + 33
@@ -141,20 +141,20 @@ book-distinct rows book o d = sym (distinct-order (subst (λ l. InAnyOrder l (gi
     again [] = refl
     again (r ∷ rs) = ap (λ l. r.sample ∷ l) (again rs)
 
-module _ (one : ℕ → Steps) (calls : List Call) (other : ℕ → Steps) (others : List Call) (d : distinct (given (standingAfter one calls)) ≡ true) (d' : distinct (given (standingAfter other others)) ≡ true) (same : SameMotion one calls other others) (a b : Fraction) where
+module _ (one : ℕ → Steps) (calls : List Call) (other : ℕ → Steps) (others : List Call) (d : distinct (given (standing_after one calls)) ≡ true) (d' : distinct (given (standing_after other others)) ≡ true) (same : SameMotion one calls other others) (a b : Fraction) where
   abbrev es : List Entry
-  es = standingAfter one calls
+  es = standing_after one calls
 
   abbrev fs : List Entry
-  fs = standingAfter other others
+  fs = standing_after other others
 
-  totals-apart : (f : Fraction → Fraction) → Steady-alike f → Within a (exactTotal f one es) (whole (33 * cms es)) → Within b (exactTotal f other fs) (whole (33 * cms fs)) → Within a b (whole (871 * cms es))
+  totals-apart : (f : Fraction → Fraction) → SteadyAlike f → Within a (exact_total f one es) (whole (33 * cms es)) → Within b (exact_total f other fs) (whole (33 * cms fs)) → Within a b (whole (871 * cms es))
   totals-apart f steady h k =
-      let q = books-apart f steady one other es fs d d' (pairs one other es fs same.there) (pairs other one fs es same.back) in
+      let q = books_apart f steady one other es fs d d' (pairs one other es fs same.there) (pairs other one fs es same.back) in
       within-⊑ (three (cms es) (cms fs) q.0) (triangle (triangle h q.1) (within-sym k))
 
-  pub along-apart : Within a (exactTotal exactCosine one es) (whole (33 * cms es)) → Within b (exactTotal exactCosine other fs) (whole (33 * cms fs)) → Within a b (whole (871 * cms es))
-  along-apart = totals-apart exactCosine alike-cosine
+  pub along-apart : Within a (exact_total exact_cosine one es) (whole (33 * cms es)) → Within b (exact_total exact_cosine other fs) (whole (33 * cms fs)) → Within a b (whole (871 * cms es))
+  along-apart = totals-apart exact_cosine alike-cosine
 
-  pub across-apart : Within a (exactTotal exactSine one es) (whole (33 * cms es)) → Within b (exactTotal exactSine other fs) (whole (33 * cms fs)) → Within a b (whole (871 * cms es))
-  across-apart = totals-apart exactSine alike-sine
+  pub across-apart : Within a (exact_total exact_sine one es) (whole (33 * cms es)) → Within b (exact_total exact_sine other fs) (whole (33 * cms fs)) → Within a b (whole (871 * cms es))
+  across-apart = totals-apart exact_sine alike-sine

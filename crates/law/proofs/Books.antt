@@ -7,7 +7,7 @@ use Rattle.sheets.specs.declared.book.Call.{Call}
 use Rattle.sheets.specs.declared.book.Call.TheVariants.{Enter, Correct, Withdraw, RowOf, RowAt, Count, Totals}
 use Rattle.sheets.specs.declared.book.Entry.{Entry}
 use Rattle.sheets.specs.declared.fault.SheetFault.{SheetFault}
-use Rattle.sheets.specs.Book.{allowed, mayEnter, mayCorrect, mayWithdraw, given, written, standingAfter}
+use Rattle.sheets.specs.Book.{allowed, may_enter, may_correct, may_withdraw, given, written, standing_after}
 use Rattle.sheets.proofs.Runs.{all-replaced}
 
 abbrev pub Angled : (ℕ → Steps) → Entry → Type 0
@@ -17,20 +17,20 @@ pub all-allowed : (P : Entry → Type 0) (r : Result (Unit {0}) SheetFault) (es 
 all-allowed P (Ok u) es fs h k = h
 all-allowed P (Err e) es fs h k = k
 
-pub all-entered : (P : Entry → Type 0) (o : Steps) (book : List Entry) (e : Entry) → (is_some o ≡ true → P e) → All P book → All P (allowed (mayEnter o (given book) e.sample) (book ++ e ∷ []) book)
+pub all-entered : (P : Entry → Type 0) (o : Steps) (book : List Entry) (e : Entry) → (is_some o ≡ true → P e) → All P book → All P (allowed (may_enter o (given book) e.sample) (book ++ e ∷ []) book)
 all-entered P None book e p h = h
-all-entered P (Some u) book e p h = all-allowed P (mayEnter (Some u) (given book) e.sample) (book ++ e ∷ []) book (All-push P book e h (p refl)) h
+all-entered P (Some u) book e p h = all-allowed P (may_enter (Some u) (given book) e.sample) (book ++ e ∷ []) book (All-push P book e h (p refl)) h
 
-pub all-corrected : (P : Entry → Type 0) (o : Steps) (book : List Entry) (e : Entry) → (is_some o ≡ true → P e) → All P book → All P (allowed (mayCorrect o (given book) e.sample) (map (λ f. cond (eqb f.sample e.sample) e f) book) book)
+pub all-corrected : (P : Entry → Type 0) (o : Steps) (book : List Entry) (e : Entry) → (is_some o ≡ true → P e) → All P book → All P (allowed (may_correct o (given book) e.sample) (map (λ f. cond (eqb f.sample e.sample) e f) book) book)
 all-corrected P None book e p h = h
-all-corrected P (Some u) book e p h = all-allowed P (mayCorrect (Some u) (given book) e.sample) (map (λ f. cond (eqb f.sample e.sample) e f) book) book (all-replaced P book e.sample e (p refl) h) h
+all-corrected P (Some u) book e p h = all-allowed P (may_correct (Some u) (given book) e.sample) (map (λ f. cond (eqb f.sample e.sample) e f) book) book (all-replaced P book e.sample e (p refl) h) h
 
 written-angled : (steps : ℕ → Steps) (book : List Entry) (call : Call) → All (Angled steps) book → All (Angled steps) (written steps book call)
 written-angled steps book (Enter e) h = all-entered (Angled steps) (steps e.word) book e (λ p. p) h
 written-angled steps book (Correct e) h = all-corrected (Angled steps) (steps e.word) book e (λ p. p) h
 written-angled steps book (Withdraw s) h =
     let less : List Entry = filter (λ f. not (eqb f.sample s)) book in
-    all-allowed (Angled steps) (mayWithdraw (given book) s) less book (all_kept_by (λ f. not (eqb f.sample s)) (Angled steps) book h) h
+    all-allowed (Angled steps) (may_withdraw (given book) s) less book (all_kept_by (λ f. not (eqb f.sample s)) (Angled steps) book h) h
 written-angled steps book (RowOf s) h = h
 written-angled steps book (RowAt i) h = h
 written-angled steps book Count h = h
@@ -40,5 +40,5 @@ folded-angled : (steps : ℕ → Steps) (book : List Entry) (calls : List Call) 
 folded-angled steps book [] h = h
 folded-angled steps book (call ∷ calls) h = folded-angled steps (written steps book call) calls (written-angled steps book call h)
 
-pub standing-angled : (steps : ℕ → Steps) (calls : List Call) → All (Angled steps) (standingAfter steps calls)
+pub standing-angled : (steps : ℕ → Steps) (calls : List Call) → All (Angled steps) (standing_after steps calls)
 standing-angled steps calls = folded-angled steps [] calls tt

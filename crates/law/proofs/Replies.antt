@@ -6,7 +6,7 @@ use Rattle.std.proofs.lemmas.List.Sums.{fold_push}
 use Rattle.readers.specs.Meaning.{Steps, Reading}
 use Rattle.sheets.specs.declared.book.Entry.{Entry}
 use Rattle.sheets.specs.declared.row.Row.{Row}
-use Rattle.sheets.specs.Book.{written, standingAfter}
+use Rattle.sheets.specs.Book.{written, standing_after}
 use Rattle.sheets.specs.Runs.{filled, Grown}
 use Rattle.sheets.specs.Sheets.{InAnyOrder}
 use Rattle.law.specs.declared.asking.Asked.{Asked}
@@ -25,13 +25,13 @@ module _ (steps : ℕ → Steps) (answer : ℕ → Reading) where
   run-push book places [] mid after a e h o = (after, subst (λ m. Answer steps m a.call a.answer after) (sym e) h, o, refl)
   run-push book places (x ∷ list) mid after a r h o = (r.0, r.1, r.2, run-push (written steps book x.call) r.0 list mid after a r.3 h o)
 
-  standing-push : (list : List Asked) (a : Asked) → standingAfter steps (calls_of (list ++ a ∷ [])) ≡ written steps (standingAfter steps (calls_of list)) a.call
-  standing-push list a = ap (standingAfter steps) (map_push (λ (x : Asked). x.call) list a) ∙ fold_push (written steps) [] (calls_of list) a.call
+  standing-push : (list : List Asked) (a : Asked) → standing_after steps (calls_of (list ++ a ∷ [])) ≡ written steps (standing_after steps (calls_of list)) a.call
+  standing-push list a = ap (standing_after steps) (map_push (λ (x : Asked). x.call) list a) ∙ fold_push (written steps) [] (calls_of list) a.call
 
   -- the run so far, and the book and the rows it led to
   pub record Sofar (list : List Asked) (places : List Row) : Type 0 where
     pub run : Run steps answer [] [] list places
-    pub grown : Grown answer (standingAfter steps (calls_of list)) places
+    pub grown : Grown answer (standing_after steps (calls_of list)) places
 
   pub begun : (places : List Row) → places ≡ [] → Sofar [] places
   begun places e = subst (λ l. Sofar [] l) (sym e) (record { run = refl; grown = record { order = Permᴰ.refl []; words = tt } })
@@ -40,7 +40,7 @@ module _ (steps : ℕ → Steps) (answer : ℕ → Reading) where
       → ((book : List Entry) → Grown answer book before → Grown answer (written steps book a.call) after) → Sofar (take (i + 1) (set list i a)) after
   further list i a before after h s r grows =
       let front : List Asked = take i list in
-      let g : Grown answer (written steps (standingAfter steps (calls_of front)) a.call) after = grows (standingAfter steps (calls_of front)) s.grown in
+      let g : Grown answer (written steps (standing_after steps (calls_of front)) a.call) after = grows (standing_after steps (calls_of front)) s.grown in
       subst (λ l. Sofar l after) (sym (take_more_set list i a h))
       (record {
         run = run-push [] [] front before after a s.run r g.order;

@@ -8,34 +8,34 @@ use Rattle.exact.specs.Value.{integer}
 use Rattle.exact.proofs.Order.{≈-refl, ≈-sym, ≈-trans, ≡-≈, ⊑_refl, ⊕-assoc, ⊕-comm, ⊕-cong, ⊕-zero, zero-⊕, ⊗-comm, within-⊑, within-≈, within-⊕, within-refl, within-mul-right}
 use Rattle.exact.proofs.Away.{int-add}
 use Rattle.sheets.specs.Sheets.{InAnyOrder}
-use Rattle.law.specs.Law.{sumF}
+use Rattle.law.specs.Law.{sum_f}
 
 ⊕-swap : (a b c : Fraction) → a ⊕ (b ⊕ c) ≈ b ⊕ (a ⊕ c)
 ⊕-swap a b c = ≈-trans (≈-sym (⊕-assoc a b c)) (≈-trans (⊕-cong (⊕-comm a b) (≈-refl c)) (⊕-assoc b a c))
 
-pub sumF-order : {X : Type 0} (f : X → Fraction) {xs ys : List X} → InAnyOrder xs ys → sumF f xs ≈ sumF f ys
-sumF-order f Permᴰ.nil = ≈-refl (whole 0)
-sumF-order f (Permᴰ.cons e d) = ⊕-cong (≡-≈ (ap f e)) (sumF-order f d)
-sumF-order f (Permᴰ.swap {a = a} {b = b} {l = l} e g) = ≈-trans (⊕-swap (f a) (f b) (sumF f l)) (⊕-cong (≡-≈ (ap f g)) (⊕-cong (≡-≈ (ap f e)) (≈-refl (sumF f l))))
-sumF-order f (Permᴰ.trans d e) = ≈-trans (sumF-order f d) (sumF-order f e)
+pub sum_f-order : {X : Type 0} (f : X → Fraction) {xs ys : List X} → InAnyOrder xs ys → sum_f f xs ≈ sum_f f ys
+sum_f-order f Permᴰ.nil = ≈-refl (whole 0)
+sum_f-order f (Permᴰ.cons e d) = ⊕-cong (≡-≈ (ap f e)) (sum_f-order f d)
+sum_f-order f (Permᴰ.swap {a = a} {b = b} {l = l} e g) = ≈-trans (⊕-swap (f a) (f b) (sum_f f l)) (⊕-cong (≡-≈ (ap f g)) (⊕-cong (≡-≈ (ap f e)) (≈-refl (sum_f f l))))
+sum_f-order f (Permᴰ.trans d e) = ≈-trans (sum_f-order f d) (sum_f-order f e)
 
-pub sumF-map : {X Y : Type 0} (f : Y → Fraction) (g : X → Y) (xs : List X) → sumF f (map g xs) ≈ sumF (λ x. f (g x)) xs
-sumF-map f g [] = ≈-refl (whole 0)
-sumF-map f g (x ∷ xs) = ⊕-cong (≈-refl (f (g x))) (sumF-map f g xs)
+pub sum_f-map : {X Y : Type 0} (f : Y → Fraction) (g : X → Y) (xs : List X) → sum_f f (map g xs) ≈ sum_f (λ x. f (g x)) xs
+sum_f-map f g [] = ≈-refl (whole 0)
+sum_f-map f g (x ∷ xs) = ⊕-cong (≈-refl (f (g x))) (sum_f-map f g xs)
 
-pub sumBy-map : {X Y : Type 0} (f : Y → ℕ) (g : X → Y) (xs : List X) → sum_by f (map g xs) ≡ sum_by (λ x. f (g x)) xs
-sumBy-map f g [] = refl
-sumBy-map f g (x ∷ xs) = sum_by-cons f (g x) (map g xs) ∙ ap (λ n. f (g x) + n) (sumBy-map f g xs) ∙ sym (sum_by-cons (λ x. f (g x)) x xs)
+pub sum_by-map : {X Y : Type 0} (f : Y → ℕ) (g : X → Y) (xs : List X) → sum_by f (map g xs) ≡ sum_by (λ x. f (g x)) xs
+sum_by-map f g [] = refl
+sum_by-map f g (x ∷ xs) = sum_by-cons f (g x) (map g xs) ∙ ap (λ n. f (g x) + n) (sum_by-map f g xs) ∙ sym (sum_by-cons (λ x. f (g x)) x xs)
 
 -- ---- sums of whole numbers with their signs
-folded_from : {X : Type 0} (f : X → ℤ) (z : ℤ) (xs : List X) → integer (fold (λ a x. a +ℤ f x) z xs) ≈ integer z ⊕ sumF (λ x. integer (f x)) xs
+folded_from : {X : Type 0} (f : X → ℤ) (z : ℤ) (xs : List X) → integer (fold (λ a x. a +ℤ f x) z xs) ≈ integer z ⊕ sum_f (λ x. integer (f x)) xs
 folded_from f z [] = ≈-sym (⊕-zero (integer z))
 folded_from f z (x ∷ xs) =
-    let s : Fraction = sumF (λ x. integer (f x)) xs in
+    let s : Fraction = sum_f (λ x. integer (f x)) xs in
     ≈-trans (folded_from f (z +ℤ f x) xs) (≈-trans (⊕-cong (int-add z (f x)) (≈-refl s)) (⊕-assoc (integer z) (integer (f x)) s))
 
-pub folded-sumF : {X : Type 0} (f : X → ℤ) (xs : List X) → integer (fold (λ a x. a +ℤ f x) (pos 0) xs) ≈ sumF (λ x. integer (f x)) xs
-folded-sumF f xs = ≈-trans (folded_from f (pos 0) xs) (zero-⊕ (sumF (λ x. integer (f x)) xs))
+pub folded-sum_f : {X : Type 0} (f : X → ℤ) (xs : List X) → integer (fold (λ a x. a +ℤ f x) (pos 0) xs) ≈ sum_f (λ x. integer (f x)) xs
+folded-sum_f f xs = ≈-trans (folded_from f (pos 0) xs) (zero-⊕ (sum_f (λ x. integer (f x)) xs))
 
 int-neg : (n : ℕ) → integer (neg_ℤ (pos n)) ≈ neg (whole n)
 int-neg zero = record { eq = refl }
@@ -66,6 +66,6 @@ pub none_apart : (m : ℕ) → Within (whole 0) (whole 0) (whole (m * 0))
 none_apart m = within-⊑ (record { le = omega arith }) (within-refl (≈-refl (whole 0)))
 
 -- two sums over one list
-pub sums_apart : {X : Type 0} (m : ℕ) (n : X → ℕ) (f g : X → Fraction) (xs : List X) → All (λ x. Within (f x) (g x) (whole (m * n x))) xs → Within (sumF f xs) (sumF g xs) (whole (m * sum_by n xs))
+pub sums_apart : {X : Type 0} (m : ℕ) (n : X → ℕ) (f g : X → Fraction) (xs : List X) → All (λ x. Within (f x) (g x) (whole (m * n x))) xs → Within (sum_f f xs) (sum_f g xs) (whole (m * sum_by n xs))
 sums_apart m n f g [] h = none_apart m
-sums_apart m n f g (x ∷ xs) h = add_apart m (n x) (sum_by n xs) (sum_by n (x ∷ xs)) (f x) (g x) (sumF f xs) (sumF g xs) (sum_by-cons n x xs) h.0 (sums_apart m n f g xs h.1)
+sums_apart m n f g (x ∷ xs) h = add_apart m (n x) (sum_by n xs) (sum_by n (x ∷ xs)) (f x) (g x) (sum_f f xs) (sum_f g xs) (sum_by-cons n x xs) h.0 (sums_apart m n f g xs h.1)

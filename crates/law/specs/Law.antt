@@ -3,14 +3,14 @@ use Rattle.std.specs.Prelude.{◌≡◌, ℕ, ◌*◌, ◌^◌, List, [], ◌∷
 use Rattle.std.specs.List.{ContainsAt as Has, AllByRecursion as All}
 use Rattle.exact.specs.Fraction.{Fraction, ◌⊕◌, ◌⊗◌, whole, tiny, Within}
 use Rattle.exact.specs.Value.{integer}
-use Rattle.circle.specs.Circle.{exactSine, exactCosine, Alike}
+use Rattle.circle.specs.Circle.{exact_sine, exact_cosine, Alike}
 use Rattle.readers.specs.Meaning.{Steps, Reading}
-use Rattle.shares.specs.Share.{sineShare, cosineShare}
+use Rattle.shares.specs.Share.{sine_share, cosine_share}
 use Rattle.sheets.specs.declared.book.Call.{Call}
 use Rattle.sheets.specs.declared.book.Entry.{Entry}
 use Rattle.sheets.specs.declared.row.Row.{Row}
 use Rattle.sheets.specs.declared.totals.Totals.{Totals}
-use Rattle.sheets.specs.Book.{standingAfter}
+use Rattle.sheets.specs.Book.{standing_after}
 use Rattle.sheets.specs.Sheets.{InAnyOrder}
 
 -- a row without its shares
@@ -22,41 +22,41 @@ abbrev pub cms : List Entry → ℕ
 cms book = sum_by (λ e. e.speed) book
 
 -- f of a word's steps; 0 for no angle, which does not stand
-abbrev pub ofSteps : (Fraction → Fraction) → Steps → Fraction
-ofSteps f (Some u) = f u
-ofSteps f None = whole 0
+abbrev pub of_steps : (Fraction → Fraction) → Steps → Fraction
+of_steps f (Some u) = f u
+of_steps f None = whole 0
 
 -- the sum of f over a list
-abbrev pub sumF : {X : Type 0} → (X → Fraction) → List X → Fraction
-sumF f [] = whole 0
-sumF f (x ∷ xs) = f x ⊕ sumF f xs
+abbrev pub sum_f : {X : Type 0} → (X → Fraction) → List X → Fraction
+sum_f f [] = whole 0
+sum_f f (x ∷ xs) = f x ⊕ sum_f f xs
 
 -- speed × 2 ^ 30 × f of the word's exact steps, summed over the book
-abbrev pub exactTotal : (Fraction → Fraction) → (ℕ → Steps) → List Entry → Fraction
-exactTotal f steps book = sumF (λ e. whole e.speed ⊗ (whole (2 ^ 30) ⊗ ofSteps f (steps e.word))) book
+abbrev pub exact_total : (Fraction → Fraction) → (ℕ → Steps) → List Entry → Fraction
+exact_total f steps book = sum_f (λ e. whole e.speed ⊗ (whole (2 ^ 30) ⊗ of_steps f (steps e.word))) book
 
 -- the exact total along, in units of 2 ^ -30 cm/s
-abbrev pub exactAlong : (ℕ → Steps) → List Entry → Fraction
-exactAlong steps book = exactTotal exactCosine steps book
+abbrev pub exact_along : (ℕ → Steps) → List Entry → Fraction
+exact_along steps book = exact_total exact_cosine steps book
 
 -- and across
-abbrev pub exactAcross : (ℕ → Steps) → List Entry → Fraction
-exactAcross steps book = exactTotal exactSine steps book
+abbrev pub exact_across : (ℕ → Steps) → List Entry → Fraction
+exact_across steps book = exact_total exact_sine steps book
 
 -- the reader answers the row's word, and the row's shares are those of the answer
 abbrev pub Shared : (ℕ → Reading) → Row → Type 0
-Shared answer r = (a : ℕ × Float) × (answer r.word ≡ Ok a) × (r.sine ≡ sineShare a.0 a.1) × (r.cosine ≡ cosineShare a.0 a.1)
+Shared answer r = (a : ℕ × Float) × (answer r.word ≡ Ok a) × (r.sine ≡ sine_share a.0 a.1) × (r.cosine ≡ cosine_share a.0 a.1)
 
 -- totals near the exact ones of the rows standing after the calls: within 33 units for each cm/s standing
 pub record Near (steps : ℕ → Steps) (calls : List Call) (totals : Totals) : Type 0 where
-  pub speed : totals.speed ≡ cms (standingAfter steps calls)
-  pub along : Within (integer totals.along) (exactAlong steps (standingAfter steps calls)) (whole (33 * cms (standingAfter steps calls)))
-  pub across : Within (integer totals.across) (exactAcross steps (standingAfter steps calls)) (whole (33 * cms (standingAfter steps calls)))
+  pub speed : totals.speed ≡ cms (standing_after steps calls)
+  pub along : Within (integer totals.along) (exact_along steps (standing_after steps calls)) (whole (33 * cms (standing_after steps calls)))
+  pub across : Within (integer totals.across) (exact_across steps (standing_after steps calls)) (whole (33 * cms (standing_after steps calls)))
 
 -- after the calls the rows are the book's, each with the shares of its reader's answer, and the totals are near
 pub record Holds (steps : ℕ → Steps) (answer : ℕ → Reading) (calls : List Call) (rows : List Row) (totals : Totals) : Type 0 where
-  pub order : InAnyOrder (map plain rows) (standingAfter steps calls)
-  pub count : length rows ≡ length (standingAfter steps calls)
+  pub order : InAnyOrder (map plain rows) (standing_after steps calls)
+  pub count : length rows ≡ length (standing_after steps calls)
   pub shares : All (Shared answer) rows
   pub near : Near steps calls totals
 
@@ -73,10 +73,10 @@ Matched one other es fs = All (λ e. (f : Entry) × Has fs f × (f.sample ≡ e.
 
 -- the same samples stand after both lists of calls, at the same speeds and at steps that agree
 pub record SameMotion (one : ℕ → Steps) (calls : List Call) (other : ℕ → Steps) (others : List Call) : Type 0 where
-  pub there : Matched one other (standingAfter one calls) (standingAfter other others)
-  pub back : Matched other one (standingAfter other others) (standingAfter one calls)
+  pub there : Matched one other (standing_after one calls) (standing_after other others)
+  pub back : Matched other one (standing_after other others) (standing_after one calls)
 
 -- two sheets' totals differ by at most 871 units for each cm/s standing on the one, along and across
 pub record Agreeing (one : ℕ → Steps) (calls : List Call) (a b : Totals) : Type 0 where
-  pub along : Within (integer a.along) (integer b.along) (whole (871 * cms (standingAfter one calls)))
-  pub across : Within (integer a.across) (integer b.across) (whole (871 * cms (standingAfter one calls)))
+  pub along : Within (integer a.along) (integer b.along) (whole (871 * cms (standing_after one calls)))
+  pub across : Within (integer a.across) (integer b.across) (whole (871 * cms (standing_after one calls)))

@@ -8,7 +8,7 @@ use Rattle.sheets.specs.declared.book.Entry.{Entry}
 use Rattle.sheets.specs.declared.fault.SheetFault.{SheetFault}
 use Rattle.sheets.specs.declared.row.Row.{Row}
 use Rattle.sheets.specs.Book.{asked, written}
-use Rattle.sheets.specs.Rows.{samples, speedOf, alongOf, acrossOf}
+use Rattle.sheets.specs.Rows.{samples, speed_of, along_of, across_of}
 use Rattle.sheets.specs.Runs.{filled}
 use Rattle.sheets.specs.Sheets.{InAnyOrder}
 use Rattle.law.specs.declared.asking.Asked.{Asked}
@@ -27,7 +27,7 @@ Replies places (Withdraw s) reply after = reply ≡ Done
 Replies places (RowOf s) reply after = (row : Row) × (reply ≡ Shown row) × Has places row × (row.sample ≡ s) × (after ≡ places)
 Replies places (RowAt i) reply after = ((d : Row) → reply ≡ Shown (slice_index_or places i d)) × (after ≡ places)
 Replies places Count reply after = (reply ≡ Counted (length places)) × (after ≡ places)
-Replies places Totals reply after = (reply ≡ Summed (record { speed = speedOf places; along = alongOf places; across = acrossOf places })) × (after ≡ places)
+Replies places Totals reply after = (reply ≡ Summed (record { speed = speed_of places; along = along_of places; across = across_of places })) × (after ≡ places)
 
 -- the answer to a call: refused, as the first no decides, and all is left as it was; or a reply
 abbrev pub Answer : (ℕ → Steps) → List Row → Call → Result Reply SheetFault → List Row → Type 0

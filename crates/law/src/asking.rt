@@ -2,7 +2,7 @@
 ghost use Rattle.std.specs.Prelude.{◌≡◌, List, []};
 ghost use Rattle.sheets.specs.declared.book.Entry.{Entry};
 ghost use Rattle.sheets.specs.Book.{written};
-ghost use Rattle.sheets.specs.Sheets.{rows, totalsOf};
+ghost use Rattle.sheets.specs.Sheets.{rows, totals_of};
 ghost use Rattle.sheets.specs.Runs.{Grown};
 ghost use Rattle.law.specs.Law.{Holds};
 ghost use Rattle.law.specs.Replies.{Answer, Run, calls_of};
@@ -53,7 +53,7 @@ pub fn ask<R: Reader>(sheet: &mut Sheet<R>, call: Call) -> Result<Reply, SheetFa
 pub fn run_asked<R: Reader>(reader: R, list: &mut [Asked]) -> Sheet<R>
     ensures calls { calls_of list.new ≡ calls_of list.old }
     ensures answers { Run (R.Reader.steps reader) (R.Reader.answer reader) [] [] list.new (rows result) }
-    ensures holds { Holds (R.Reader.steps reader) (R.Reader.answer reader) (calls_of list.old) (rows result) (totalsOf result) }
+    ensures holds { Holds (R.Reader.steps reader) (R.Reader.answer reader) (calls_of list.old) (rows result) (totals_of result) }
 {
     let mut sheet = Sheet::new(reader);
     for i in 0..list.len() {

@@ -1,6 +1,6 @@
 // Two sheets over any two readers, and so over every pile of mounts, after any calls.
 ghost use Rattle.formulas.specs.Six.{Six};
-ghost use Rattle.sheets.specs.Sheets.{rows, totalsOf};
+ghost use Rattle.sheets.specs.Sheets.{rows, totals_of};
 ghost use Rattle.law.specs.Law.{Holds, SameMotion, Agreeing};
 
 use readers::reader::Reader;
@@ -26,9 +26,9 @@ pub fn run_both<P: Reader, Q: Reader>(
     other: Q,
     others: &[Call],
 ) -> Both<P, Q>
-    ensures one { Holds (P.Reader.steps one) (P.Reader.answer one) calls.now (rows result.one) (totalsOf result.one) }
-    ensures other { Holds (Q.Reader.steps other) (Q.Reader.answer other) others.now (rows result.other) (totalsOf result.other) }
-    ensures agree { SameMotion (P.Reader.steps one) calls.now (Q.Reader.steps other) others.now → Agreeing (P.Reader.steps one) calls.now (totalsOf result.one) (totalsOf result.other) }
+    ensures one { Holds (P.Reader.steps one) (P.Reader.answer one) calls.now (rows result.one) (totals_of result.one) }
+    ensures other { Holds (Q.Reader.steps other) (Q.Reader.answer other) others.now (rows result.other) (totals_of result.other) }
+    ensures agree { SameMotion (P.Reader.steps one) calls.now (Q.Reader.steps other) others.now → Agreeing (P.Reader.steps one) calls.now (totals_of result.one) (totals_of result.other) }
     ensures functions { Six }
 {
     let one = run(one, calls);

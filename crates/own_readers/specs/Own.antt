@@ -5,9 +5,9 @@ use Rattle.exact.specs.Fraction.{whole}
 use Rattle.readers.specs.Meaning.{Steps, Reading}
 
 -- every word is an angle, of as many steps
-abbrev pub wholeSteps : ℕ → Steps
-wholeSteps w = Some (whole w)
+abbrev pub whole_steps : ℕ → Steps
+whole_steps w = Some (whole w)
 
 -- exactly
-abbrev pub wholeAnswer : ℕ → Reading
-wholeAnswer w = Ok (w % 64, from_bits binary64 0)
+abbrev pub whole_answer : ℕ → Reading
+whole_answer w = Ok (w % 64, from_bits binary64 0)

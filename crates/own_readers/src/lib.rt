@@ -1,5 +1,5 @@
 // Two readers of our own, to show that sheets, mounts, shares and needle serve any reader by its promise alone.
-ghost use Rattle.own_readers.specs.Own.{wholeSteps, wholeAnswer};
+ghost use Rattle.own_readers.specs.Own.{whole_steps, whole_answer};
 ghost use Rattle.readers.specs.declared.reader.ReaderFault.TheVariants.{NoAngle};
 ghost use Rattle.std.specs.Prelude.{None, Err};
 ghost use Rattle.std.proofs.Common.{rules};
@@ -31,9 +31,9 @@ impl Reader for Blind {
 pub struct WholeSteps {}
 
 impl Reader for WholeSteps {
-    ghost steps = { λ _ w. wholeSteps w };
+    ghost steps = { λ _ w. whole_steps w };
 
-    ghost answer = { λ _ w. wholeAnswer w };
+    ghost answer = { λ _ w. whole_answer w };
 
     ghost meaning = { λ r w h. whole-keeps w };
 

@@ -7,13 +7,13 @@ use Rattle.exact.specs.Fraction.{Fraction, ◌⊑◌, ◌⊕◌, ◌⊗◌, whol
 use Rattle.exact.specs.Value.{value_of, Held}
 use Rattle.exact.proofs.Order.{by-test, within-⊑}
 use Rattle.circle.specs.Circle.{Alike}
-use Rattle.reducers.specs.Reduce.{reduce, reducePi}
-use Rattle.reducers.specs.Exact.{field, radianSteps, modTurn}
-use Rattle.reducers.proofs.Turns.{modTurn-lt}
+use Rattle.reducers.specs.Reduce.{reduce, reduce_pi}
+use Rattle.reducers.specs.Exact.{field, radian_steps, mod_turn}
+use Rattle.reducers.proofs.Turns.{mod_turn-lt}
 use Rattle.reducers.proofs.Reading.{radian-reads, half-turns-read, whole-turns-read}
 use Rattle.readers.specs.declared.reader.ReaderFault.TheVariants.{NoAngle}
 use Rattle.readers.specs.Meaning.{Steps, Reading, Answers, Keeps}
-use Rattle.readers.specs.Editions.{turned, radianMeaning, radianAnswer, halfTurnMeaning, halfTurnAnswer}
+use Rattle.readers.specs.Editions.{turned, radian_meaning, radian_answer, half_turn_meaning, half_turn_answer}
 
 enough : whole 1024 ⊗ tiny 60 ⊑ tiny 50
 unfolding leq
@@ -31,14 +31,14 @@ either : (b : Bool) (u : Fraction) (p q : Reading) → (b ≡ true → Keeps (So
 either true u p q f g = f refl
 either false u p q f g = g refl
 
-pub radian-keeps : (w : ℕ) → Keeps (radianMeaning w) (radianAnswer w)
+pub radian-keeps : (w : ℕ) → Keeps (radian_meaning w) (radian_answer w)
 radian-keeps w =
-    read-unless (field w == 255) (radianSteps (from_bits binary32 w)) (turned (reduce (from_bits binary32 w) (w % 2147483648)))
-    (λ e. answers _ _ _ (modTurn-lt _) (radian-reads w (eqb-false (field w) 255 e)))
+    read-unless (field w == 255) (radian_steps (from_bits binary32 w)) (turned (reduce (from_bits binary32 w) (w % 2147483648)))
+    (λ e. answers _ _ _ (mod_turn-lt _) (radian-reads w (eqb-false (field w) 255 e)))
 
-pub half-turn-keeps : (w : ℕ) → Keeps (halfTurnMeaning w) (halfTurnAnswer w)
+pub half-turn-keeps : (w : ℕ) → Keeps (half_turn_meaning w) (half_turn_answer w)
 half-turn-keeps w =
-    read-unless (field w == 255) (whole 32 ⊗ value_of (from_bits binary32 w)) (cond (nat_lt (w % 2147483648) 1266679808) (turned (reducePi (from_bits binary32 w))) (Ok (0, from_bits binary64 0)))
-    (λ e. either (nat_lt (w % 2147483648) 1266679808) (whole 32 ⊗ value_of (from_bits binary32 w)) (turned (reducePi (from_bits binary32 w))) (Ok (0, from_bits binary64 0))
-    (λ t. answers _ _ _ (modTurn-lt _) (half-turns-read w 1024 (eqb-false (field w) 255 e) (ltb-true _ _ t)))
+    read-unless (field w == 255) (whole 32 ⊗ value_of (from_bits binary32 w)) (cond (nat_lt (w % 2147483648) 1266679808) (turned (reduce_pi (from_bits binary32 w))) (Ok (0, from_bits binary64 0)))
+    (λ e. either (nat_lt (w % 2147483648) 1266679808) (whole 32 ⊗ value_of (from_bits binary32 w)) (turned (reduce_pi (from_bits binary32 w))) (Ok (0, from_bits binary64 0))
+    (λ t. answers _ _ _ (mod_turn-lt _) (half-turns-read w 1024 (eqb-false (field w) 255 e) (ltb-true _ _ t)))
     (λ t. answers _ _ _ (omega arith) (whole-turns-read w 1024 (eqb-false (field w) 255 e) (ltb-false _ _ t))))

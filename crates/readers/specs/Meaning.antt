@@ -28,21 +28,21 @@ Keeps (Some u) (Ok a) = Answers u a.0 a.1
 Keeps (Some u) (Err e) = ⊥
 
 -- a turned mount's steps: 16 q more
-abbrev pub turnedSteps : ℕ → Steps → Steps
-turnedSteps q (Some u) = Some (u ⊕ whole (16 * q))
-turnedSteps q None = None
+abbrev pub turned_steps : ℕ → Steps → Steps
+turned_steps q (Some u) = Some (u ⊕ whole (16 * q))
+turned_steps q None = None
 
 -- and its answer: k + 16 q modulo 64, the same y
-abbrev pub turnedAnswer : ℕ → Reading → Reading
-turnedAnswer q (Ok a) = Ok ((a.0 + 16 * q) % 64, a.1)
-turnedAnswer q (Err e) = Err e
+abbrev pub turned_answer : ℕ → Reading → Reading
+turned_answer q (Ok a) = Ok ((a.0 + 16 * q) % 64, a.1)
+turned_answer q (Err e) = Err e
 
 -- a mirrored mount's steps: negated
-abbrev pub mirroredSteps : Steps → Steps
-mirroredSteps (Some u) = Some (neg u)
-mirroredSteps None = None
+abbrev pub mirrored_steps : Steps → Steps
+mirrored_steps (Some u) = Some (neg u)
+mirrored_steps None = None
 
 -- and its answer: - k modulo 64, - y
-abbrev pub mirroredAnswer : Reading → Reading
-mirroredAnswer (Ok a) = Ok ((64 - a.0) % 64, negate a.1)
-mirroredAnswer (Err e) = Err e
+abbrev pub mirrored_answer : Reading → Reading
+mirrored_answer (Ok a) = Ok ((64 - a.0) % 64, negate a.1)
+mirrored_answer (Err e) = Err e

@@ -8,8 +8,8 @@ use Rattle.exact.proofs.Order.{≈-refl, ≈-sym, ≈-trans, ≈→⊑, ⊕-cong
 use Rattle.exact.proofs.Poly.{var, con, ◌:+◌, ◌:*◌, ◌:-◌, minus, free, same}
 use Rattle.exact.proofs.Cert.{ring}
 use Rattle.exact.proofs.Rounding.{finite-neg, value-neg}
-use Rattle.circle.specs.Circle.{Alike, turnsOn}
-use Rattle.readers.specs.Meaning.{Steps, Reading, Answers, Keeps, turnedSteps, turnedAnswer, mirroredSteps, mirroredAnswer}
+use Rattle.circle.specs.Circle.{Alike, turns_on}
+use Rattle.readers.specs.Meaning.{Steps, Reading, Answers, Keeps, turned_steps, turned_answer, mirrored_steps, mirrored_answer}
 
 -- the same number on both sides
 both : {a b c : Fraction} (d : Fraction) → Within a b c → Within (a ⊕ d) (b ⊕ d) c
@@ -22,7 +22,7 @@ whole_sum a b = record { eq = omega arith }
 further : (k k' a n : ℕ) → k + a ≡ k' + 64 * n → whole k ⊕ whole a ≈ whole k' ⊕ whole 64 ⊗ whole n
 further k k' a n e = record { eq = omega arith }
 
-turned_left : (k k' a n m : ℕ) (y : Fraction) → k + a ≡ k' + 64 * n → turnsOn (whole k ⊕ y) m ⊕ whole a ≈ turnsOn (whole k' ⊕ y) (m + n)
+turned_left : (k k' a n m : ℕ) (y : Fraction) → k + a ≡ k' + 64 * n → turns_on (whole k ⊕ y) m ⊕ whole a ≈ turns_on (whole k' ⊕ y) (m + n)
 unfolding same
 turned_left k k' a n m y e =
     ≈-trans (ring (free (whole k) ∷ free y ∷ free (whole m) ∷ free (whole a) ∷ []) ((var 0 :+ var 1) :+ con (whole 64) :* var 2 :+ var 3) ((var 0 :+ var 3) :+ (var 1 :+ con (whole 64) :* var 2)) tt)
@@ -30,7 +30,7 @@ turned_left k k' a n m y e =
     (≈-trans (ring (free (whole k') ∷ free y ∷ free (whole m) ∷ free (whole n) ∷ []) ((var 0 :+ con (whole 64) :* var 3) :+ (var 1 :+ con (whole 64) :* var 2)) ((var 0 :+ var 1) :+ con (whole 64) :* (var 2 :+ var 3)) tt)
     (⊕-cong (≈-refl (whole k' ⊕ y)) (⊗-cong (≈-refl (whole 64)) (≈-sym (whole_sum m n))))))
 
-turned_right : (u : Fraction) (a n : ℕ) → turnsOn u n ⊕ whole a ≈ turnsOn (u ⊕ whole a) n
+turned_right : (u : Fraction) (a n : ℕ) → turns_on u n ⊕ whole a ≈ turns_on (u ⊕ whole a) n
 unfolding same
 turned_right u a n = ring (free u ∷ free (whole a) ∷ free (whole n) ∷ []) ((var 0 :+ con (whole 64) :* var 2) :+ var 1) ((var 0 :+ var 1) :+ con (whole 64) :* var 2) tt
 
@@ -45,7 +45,7 @@ alike_turned k k' a n y u c e h = record {
 back : (k k' n : ℕ) → k + k' + 64 * n ≡ 64 → neg (whole k) ⊕ whole 64 ≈ whole k' ⊕ whole 64 ⊗ whole n
 back k k' n e = record { eq = omega arith }
 
-mirrored-left : (k k' n m l : ℕ) (y : Fraction) → k + k' + 64 * n ≡ 64 → neg (turnsOn (whole k ⊕ y) m) ⊕ whole 64 ⊗ (whole m ⊕ whole l ⊕ whole 1) ≈ turnsOn (whole k' ⊕ neg y) (l + n)
+mirrored-left : (k k' n m l : ℕ) (y : Fraction) → k + k' + 64 * n ≡ 64 → neg (turns_on (whole k ⊕ y) m) ⊕ whole 64 ⊗ (whole m ⊕ whole l ⊕ whole 1) ≈ turns_on (whole k' ⊕ neg y) (l + n)
 unfolding same
 mirrored-left k k' n m l y e =
     ≈-trans (ring (free (whole k) ∷ free y ∷ free (whole m) ∷ free (whole l) ∷ []) (minus ((var 0 :+ var 1) :+ con (whole 64) :* var 2) :+ con (whole 64) :* (var 2 :+ var 3 :+ con (whole 1))) ((minus (var 0) :+ con (whole 64)) :+ (minus (var 1) :+ con (whole 64) :* var 3)) tt)
@@ -53,7 +53,7 @@ mirrored-left k k' n m l y e =
     (≈-trans (ring (free (whole k') ∷ free y ∷ free (whole l) ∷ free (whole n) ∷ []) ((var 0 :+ con (whole 64) :* var 3) :+ (minus (var 1) :+ con (whole 64) :* var 2)) ((var 0 :+ minus (var 1)) :+ con (whole 64) :* (var 2 :+ var 3)) tt)
     (⊕-cong (≈-refl (whole k' ⊕ neg y)) (⊗-cong (≈-refl (whole 64)) (≈-sym (whole_sum l n))))))
 
-mirrored-right : (u : Fraction) (m l : ℕ) → neg (turnsOn u l) ⊕ whole 64 ⊗ (whole m ⊕ whole l ⊕ whole 1) ≈ turnsOn (neg u) (m + 1)
+mirrored-right : (u : Fraction) (m l : ℕ) → neg (turns_on u l) ⊕ whole 64 ⊗ (whole m ⊕ whole l ⊕ whole 1) ≈ turns_on (neg u) (m + 1)
 unfolding same
 mirrored-right u m l =
     ≈-trans (ring (free u ∷ free (whole m) ∷ free (whole l) ∷ []) (minus (var 0 :+ con (whole 64) :* var 2) :+ con (whole 64) :* (var 1 :+ var 2 :+ con (whole 1))) (minus (var 0) :+ con (whole 64) :* (var 1 :+ con (whole 1))) tt)
@@ -73,7 +73,7 @@ alike-mirrored k k' n y z u c e zy h = record {
 held-neg : {y : Float} {b : Fraction} → Held y b → Held (negate y) b
 held-neg {y} h = record { fin = finite-neg y h.fin; size = size-≈ (≈-sym (value-neg y)) (size-neg h.size) }
 
-pub turned-keeps : (q : ℕ) (o : Steps) (a : Reading) → Keeps o a → Keeps (turnedSteps q o) (turnedAnswer q a)
+pub turned-keeps : (q : ℕ) (o : Steps) (a : Reading) → Keeps o a → Keeps (turned_steps q o) (turned_answer q a)
 turned-keeps q None (Err e) k = tt
 turned-keeps q None (Ok a) k = k
 turned-keeps q (Some u) (Err e) k = k
@@ -82,7 +82,7 @@ turned-keeps q (Some u) (Ok a) k =
     let e : a.0 + 16 * q ≡ (a.0 + 16 * q) % 64 + 64 * ((a.0 + 16 * q) / 64) = omega arith in
     record { step = r; rest = k.rest; near = alike_turned a.0 ((a.0 + 16 * q) % 64) (16 * q) ((a.0 + 16 * q) / 64) (value_of a.1) u (tiny 50) e k.near }
 
-pub mirrored-keeps : (o : Steps) (a : Reading) → Keeps o a → Keeps (mirroredSteps o) (mirroredAnswer a)
+pub mirrored-keeps : (o : Steps) (a : Reading) → Keeps o a → Keeps (mirrored_steps o) (mirrored_answer a)
 mirrored-keeps None (Err e) k = tt
 mirrored-keeps None (Ok a) k = k
 mirrored-keeps (Some u) (Err e) k = k

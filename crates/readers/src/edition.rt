@@ -2,7 +2,7 @@
 ghost use Rattle.std.specs.Prelude.{◌≡◌, ◌==◌, from_bits};
 ghost use Rattle.std.specs.Float.{binary32};
 ghost use Rattle.reducers.specs.Exact.{field};
-ghost use Rattle.readers.specs.Editions.{radianMeaning, radianAnswer, halfTurnMeaning, halfTurnAnswer};
+ghost use Rattle.readers.specs.Editions.{radian_meaning, radian_answer, half_turn_meaning, half_turn_answer};
 ghost use Rattle.readers.specs.EditionsLemmas.{radian-keeps, half-turn-keeps};
 
 use crate::reader::{Reader, ReaderFault};
@@ -29,9 +29,9 @@ fn is_not_finite(word: u32) -> bool
 pub struct Radians {}
 
 impl Reader for Radians {
-    ghost steps = { λ _ w. radianMeaning w };
+    ghost steps = { λ _ w. radian_meaning w };
 
-    ghost answer = { λ _ w. radianAnswer w };
+    ghost answer = { λ _ w. radian_answer w };
 
     ghost meaning = { λ r w h. radian-keeps w };
 
@@ -53,9 +53,9 @@ impl Reader for Radians {
 pub struct HalfTurns {}
 
 impl Reader for HalfTurns {
-    ghost steps = { λ _ w. halfTurnMeaning w };
+    ghost steps = { λ _ w. half_turn_meaning w };
 
-    ghost answer = { λ _ w. halfTurnAnswer w };
+    ghost answer = { λ _ w. half_turn_answer w };
 
     ghost meaning = { λ r w h. half-turn-keeps w };
 

@@ -1,6 +1,6 @@
 // Mounts: how a module sits in the car. A mount holds any reader and is a reader again, so mounts pile.
 ghost use Rattle.std.specs.Prelude.{◌≡◌, ◌<◌, ◌≤◌, MatchResult};
-ghost use Rattle.readers.specs.Meaning.{turnedSteps, turnedAnswer, mirroredSteps, mirroredAnswer};
+ghost use Rattle.readers.specs.Meaning.{turned_steps, turned_answer, mirrored_steps, mirrored_answer};
 ghost use Rattle.readers.specs.Mounts.{turned-keeps, mirrored-keeps};
 
 use crate::reader::{Reader, ReaderFault};
@@ -43,9 +43,9 @@ impl<R: Drop> Turned<R> {
 }
 
 impl<R: Reader> Reader for Turned<R> {
-    ghost steps = { λ m w. turnedSteps m.quarters (R.Reader.steps m.below w) };
+    ghost steps = { λ m w. turned_steps m.quarters (R.Reader.steps m.below w) };
 
-    ghost answer = { λ m w. turnedAnswer m.quarters (R.Reader.answer m.below w) };
+    ghost answer = { λ m w. turned_answer m.quarters (R.Reader.answer m.below w) };
 
     ghost meaning = { λ r w h. turned-keeps r.quarters (R.Reader.steps r.below w) (R.Reader.answer r.below w) (R.Reader.meaning r.below w h) };
 
@@ -62,9 +62,9 @@ pub struct Mirrored<R> {
 }
 
 impl<R: Reader> Reader for Mirrored<R> {
-    ghost steps = { λ m w. mirroredSteps (R.Reader.steps m.below w) };
+    ghost steps = { λ m w. mirrored_steps (R.Reader.steps m.below w) };
 
-    ghost answer = { λ m w. mirroredAnswer (R.Reader.answer m.below w) };
+    ghost answer = { λ m w. mirrored_answer (R.Reader.answer m.below w) };
 
     ghost meaning = { λ r w h. mirrored-keeps (R.Reader.steps r.below w) (R.Reader.answer r.below w) (R.Reader.meaning r.below w h) };
 

@@ -13,8 +13,8 @@ use Rattle.record.specs.declared.state.Kind.{Kind}
 use Rattle.record.specs.declared.state.Kind.TheVariants as kind
 use Rattle.record.specs.declared.state.State.{State}
 use Rattle.record.specs.declared.state.State.TheVariants as state
-use Rattle.record.specs.Fields.{and_then, Cut, cut, next, sized, length_of, editionItem, item_of, Read, valued, measured, placed, field_at}
-use Rattle.record.specs.Record.{saidMount}
+use Rattle.record.specs.Fields.{and_then, Cut, cut, next, sized, length_of, edition_item, item_of, Read, valued, measured, placed, field_at}
+use Rattle.record.specs.Record.{said_mount}
 use Rattle.record.specs.Reached.{Allowed}
 
 pub cut-is : (bs : List ℕ) (n : ℕ) (body rest : List ℕ) → 3 ≤ length bs → n ≡ 256 * get_or bs 1 0 + get_or bs 2 0 → n ≤ length (drop 3 bs) → body ≡ take n (drop 3 bs) → rest ≡ drop n (drop 3 bs)
@@ -116,7 +116,7 @@ pub field-shorter : (s : State) (bytes : List ℕ) (f : Read) → field_at s byt
 field-shorter s bytes f e = let w = field-whole s bytes f e in subst (λ l. length l < length bytes) w.is-rest (cut-shorter bytes w.piece w.is_cut)
 
 -- the first field says the edition, and a mount is allowed after it
-edition-said : (b : ℕ) (i : Item) → editionItem b ≡ Ok i → (e : Edition) × (i ≡ item.Edition e)
+edition-said : (b : ℕ) (i : Item) → edition_item b ≡ Ok i → (e : Edition) × (i ≡ item.Edition e)
 edition-said b i h =
     let two : (t : Bool) → cond t (Ok (item.Edition edition.HalfTurns)) (Err Value) ≡ Ok i → (e : Edition) × (i ≡ item.Edition e) =
     λ t. elim t as (λ t. cond t (Ok (item.Edition edition.HalfTurns)) (Err Value) ≡ Ok i → (e : Edition) × (i ≡ item.Edition e)) [ true ↦ λ q. (edition.HalfTurns, cc) | false ↦ λ q. absurd (let z : ◌≡◌ {A = ℕ} 0 1 = cc in omega arith) ] in
@@ -136,22 +136,22 @@ first-edition bytes f h =
     (i.0, i.1, sym w.is_state ∙ sym (ap (λ (z : Kind × State). z.1) k))
 
 -- a mount that is said is allowed
-none_said : (t : Bool) (e : Edition) (q : Result Item Cause) → Allowed (saidMount q) → Allowed (saidMount (cond t (Ok (item.Edition e)) q))
+none_said : (t : Bool) (e : Edition) (q : Result Item Cause) → Allowed (said_mount q) → Allowed (said_mount (cond t (Ok (item.Edition e)) q))
 none_said true e q h = omega arith
 none_said false e q h = h
 
-mount-said : (t : Bool) (m : Mount) → (t ≡ false → m.quarters ≤ 3) → Allowed (saidMount (cond t (Err Value) (Ok (item.Mount m))))
-mount-said true m h = omega arith
-mount-said false m h = h refl
+mount_said : (t : Bool) (m : Mount) → (t ≡ false → m.quarters ≤ 3) → Allowed (said_mount (cond t (Err Value) (Ok (item.Mount m))))
+mount_said true m h = omega arith
+mount_said false m h = h refl
 
-item-allowed : (k : Kind) (body : List ℕ) → Allowed (saidMount (item_of k body))
+item-allowed : (k : Kind) (body : List ℕ) → Allowed (said_mount (item_of k body))
 item-allowed kind.Edition body = none_said (eqb (get_or body 0 0) 5) edition.Radians _ (none_said (eqb (get_or body 0 0) 6) edition.HalfTurns (Err Value) (omega arith))
 item-allowed kind.Mount body =
-    mount-said (ltb 3 (get_or body 0 0) || ltb 1 (get_or body 1 0)) (record { quarters = get_or body 0 0; mirrored = eqb (get_or body 1 0) 1 })
+    mount_said (ltb 3 (get_or body 0 0) || ltb 1 (get_or body 1 0)) (record { quarters = get_or body 0 0; mirrored = eqb (get_or body 1 0) 1 })
     (λ e. ltb-false 3 (get_or body 0 0) (or_parts (ltb 3 (get_or body 0 0)) (ltb 1 (get_or body 1 0)) e).0)
 item-allowed kind.Enter body = omega arith
 item-allowed kind.Withdraw body = omega arith
 item-allowed kind.Correct body = omega arith
 
-pub field-allowed : (s : State) (bytes : List ℕ) (f : Read) → field_at s bytes ≡ Ok f → Allowed (saidMount (Ok f.item))
-field-allowed s bytes f e = let w = field-whole s bytes f e in subst (λ q. Allowed (saidMount q)) w.is-item (item-allowed w.kind.0 w.piece.body)
+pub field-allowed : (s : State) (bytes : List ℕ) (f : Read) → field_at s bytes ≡ Ok f → Allowed (said_mount (Ok f.item))
+field-allowed s bytes f e = let w = field-whole s bytes f e in subst (λ q. Allowed (said_mount q)) w.is-item (item-allowed w.kind.0 w.piece.body)

@@ -13,8 +13,8 @@ use Rattle.sheets.specs.declared.book.Call.TheVariants.{Enter, Correct, Withdraw
 use Rattle.sheets.specs.declared.book.Entry.{Entry}
 use Rattle.sheets.specs.declared.fault.SheetFault.{SheetFault}
 use Rattle.sheets.specs.declared.row.Row.{Row}
-use Rattle.sheets.specs.Book.{asked, given, written, mayWithdraw, standingAfter}
-use Rattle.sheets.specs.Rows.{speedOf, alongOf, acrossOf}
+use Rattle.sheets.specs.Book.{asked, given, written, may_withdraw, standing_after}
+use Rattle.sheets.specs.Rows.{speed_of, along_of, across_of}
 use Rattle.sheets.specs.Runs.{filled}
 use Rattle.law.proofs.Books.{all-allowed, all-entered, all-corrected}
 use Rattle.law.proofs.Near.{holds}
@@ -32,9 +32,9 @@ use Rattle.record.specs.declared.state.State.{State}
 use Rattle.record.specs.declared.state.State.TheVariants as state
 use Rattle.record.specs.Refusals.{located}
 use Rattle.record.specs.Fields.{and_then, Cut, cut, entry_of, item_of, Read, field_at}
-use Rattle.record.specs.Record.{Field, saying, following, fields, fields_of, lifted, put, made, replay, editionOf, mountOf, editionSteps, editionAnswer, mirrorSteps, mirrorAnswer, stepsUnder, answerUnder, tally_of, recordTally}
-use Rattle.record.specs.Page.{outcomeOf}
-use Rattle.record.specs.Outcome.{steps_of, answer_of, calling, callsIn, Stands, Yes, after, Passed, No, FirstNo, Means}
+use Rattle.record.specs.Record.{Field, saying, following, fields, fields_of, lifted, put, made, replay, edition_of, mount_of, edition_steps, edition_answer, mirror_steps, mirror_answer, steps_under, answer_under, tally_of, record_tally}
+use Rattle.record.specs.Page.{outcome_of}
+use Rattle.record.specs.Outcome.{steps_of, answer_of, calling, calls_in, Stands, Yes, after, Passed, No, FirstNo, Means}
 use Rattle.record.proofs.Fields.{field-whole}
 
 -- ---- one field
@@ -114,12 +114,12 @@ after-calls steps book (item.Edition e) calls = refl
 after-calls steps book (item.Mount m) calls = refl
 after-calls steps book (item.Put call) calls = refl
 
-pub all_yes : (steps : ℕ → Steps) (book : List Entry) (fs : List Field) (end : List Entry) → replay steps book fs ≡ Ok end → fold (written steps) book (callsIn fs) ≡ end
+pub all_yes : (steps : ℕ → Steps) (book : List Entry) (fs : List Field) (end : List Entry) → replay steps book fs ≡ Ok end → fold (written steps) book (calls_in fs) ≡ end
 unfolding replay
 all_yes steps book [] end h = ok_same h
 all_yes steps book (f ∷ fs) end h =
     elim (field-made steps book f) [
-      | inl P ↦ ap (λ q. fold (written steps) book (calling q (callsIn fs))) P.said ∙ after-calls steps book P.says (callsIn fs) ∙ all_yes steps (after steps book P.says) fs end (sym (ap (λ q. and_then q (λ b. replay steps b fs)) P.is) ∙ h)
+      | inl P ↦ ap (λ q. fold (written steps) book (calling q (calls_in fs))) P.said ∙ after-calls steps book P.says (calls_in fs) ∙ all_yes steps (after steps book P.says) fs end (sym (ap (λ q. and_then q (λ b. replay steps b fs)) P.is) ∙ h)
       | inr F ↦ absurd (let q : Err (record { cause = F.cause; offset = f.at }) ≡ Ok end = sym (ap (λ q. and_then q (λ b. replay steps b fs)) F.is) ∙ h in let z : ◌≡◌ {A = ℕ} 0 1 = cc in omega arith)
     ]
 
@@ -208,69 +208,69 @@ written-fit : (steps : ℕ → Steps) (book : List Entry) (call : Call) → Call
 unfolding CallFits
 written-fit steps book (Enter e) c h = all-entered Fit (steps e.word) book e (λ _. c) h
 written-fit steps book (Correct e) c h = all-corrected Fit (steps e.word) book e (λ _. c) h
-written-fit steps book (Withdraw s) c h = all-allowed Fit (mayWithdraw (given book) s) (filter (λ f. not (eqb f.sample s)) book) book (all_kept_by (λ f. not (eqb f.sample s)) Fit book h) h
+written-fit steps book (Withdraw s) c h = all-allowed Fit (may_withdraw (given book) s) (filter (λ f. not (eqb f.sample s)) book) book (all_kept_by (λ f. not (eqb f.sample s)) Fit book h) h
 written-fit steps book (RowOf s) c h = h
 written-fit steps book (RowAt i) c h = h
 written-fit steps book Count c h = h
 written-fit steps book Totals c h = h
 
-calls-fit : (steps : ℕ → Steps) (book : List Entry) (q : Result Item Cause) (fs : List Field) → Fits q → ((b : List Entry) → All Fit b → All Fit (fold (written steps) b (callsIn fs))) → All Fit book → All Fit (fold (written steps) book (calling q (callsIn fs)))
+calls-fit : (steps : ℕ → Steps) (book : List Entry) (q : Result Item Cause) (fs : List Field) → Fits q → ((b : List Entry) → All Fit b → All Fit (fold (written steps) b (calls_in fs))) → All Fit book → All Fit (fold (written steps) book (calling q (calls_in fs)))
 unfolding Fits
 calls-fit steps book (Ok (item.Edition e)) fs f rest h = rest book h
 calls-fit steps book (Ok (item.Mount m)) fs f rest h = rest book h
 calls-fit steps book (Ok (item.Put call)) fs f rest h = rest (written steps book call) (written-fit steps book call f h)
 calls-fit steps book (Err c) fs f rest h = rest book h
 
-standing-fit : (steps : ℕ → Steps) (fs : List Field) → All (λ f. Fits f.said) fs → (book : List Entry) → All Fit book → All Fit (fold (written steps) book (callsIn fs))
+standing-fit : (steps : ℕ → Steps) (fs : List Field) → All (λ f. Fits f.said) fs → (book : List Entry) → All Fit book → All Fit (fold (written steps) book (calls_in fs))
 standing-fit steps [] a book h = h
 standing-fit steps (f ∷ fs) a book h = calls-fit steps book f.said fs a.0 (standing-fit steps fs a.1) h
 
 -- ---- the record's reader keeps its promise
-edition-keeps : (e : Edition) (w : ℕ) → Keeps (editionSteps e w) (editionAnswer e w)
+edition-keeps : (e : Edition) (w : ℕ) → Keeps (edition_steps e w) (edition_answer e w)
 edition-keeps edition.Radians w = radian-keeps w
 edition-keeps edition.HalfTurns w = half-turn-keeps w
 
-mirror-keeps : (b : Bool) (o : Steps) (a : Reading) → Keeps o a → Keeps (mirrorSteps b o) (mirrorAnswer b a)
+mirror-keeps : (b : Bool) (o : Steps) (a : Reading) → Keeps o a → Keeps (mirror_steps b o) (mirror_answer b a)
 mirror-keeps true o a k = mirrored-keeps o a k
 mirror-keeps false o a k = k
 
-pub under-keeps : (m : Option Mount) (e : Edition) (w : ℕ) → Keeps (stepsUnder m (editionSteps e) w) (answerUnder m (editionAnswer e) w)
+pub under-keeps : (m : Option Mount) (e : Edition) (w : ℕ) → Keeps (steps_under m (edition_steps e) w) (answer_under m (edition_answer e) w)
 under-keeps None e w = edition-keeps e w
-under-keeps (Some m) e w = turned-keeps m.quarters (mirrorSteps m.mirrored (editionSteps e w)) (mirrorAnswer m.mirrored (editionAnswer e w)) (mirror-keeps m.mirrored (editionSteps e w) (editionAnswer e w) (edition-keeps e w))
+under-keeps (Some m) e w = turned-keeps m.quarters (mirror_steps m.mirrored (edition_steps e w)) (mirror_answer m.mirrored (edition_answer e w)) (mirror-keeps m.mirrored (edition_steps e w) (edition_answer e w) (edition-keeps e w))
 
 -- ---- the whole
-stands : (bytes : List ℕ) (book : List Entry) → Bytes bytes → replay (steps_of bytes) [] (fields_of bytes) ≡ Ok book → Stands bytes (tally_of (editionOf (fields_of bytes)) (answer_of bytes) book)
+stands : (bytes : List ℕ) (book : List Entry) → Bytes bytes → replay (steps_of bytes) [] (fields_of bytes) ≡ Ok book → Stands bytes (tally_of (edition_of (fields_of bytes)) (answer_of bytes) book)
 stands bytes book h e =
-    let calls : List Call = callsIn (fields_of bytes) in
-    let is : standingAfter (steps_of bytes) calls ≡ book = all_yes (steps_of bytes) [] (fields_of bytes) book e in
-    let words : All Fit (standingAfter (steps_of bytes) calls) = standing-fit (steps_of bytes) (fields_of bytes) (fields_fit (length bytes) state.Edition (length bytes) bytes h) [] tt in
-    let rs : List Row = map (filled (answer_of bytes)) (standingAfter (steps_of bytes) calls) in
-    let same : (b : List Entry) → standingAfter (steps_of bytes) calls ≡ b → Stands bytes (tally_of (editionOf (fields_of bytes)) (answer_of bytes) b) =
-    λ b q. subst (λ z. Stands bytes (tally_of (editionOf (fields_of bytes)) (answer_of bytes) z)) q
+    let calls : List Call = calls_in (fields_of bytes) in
+    let is : standing_after (steps_of bytes) calls ≡ book = all_yes (steps_of bytes) [] (fields_of bytes) book e in
+    let words : All Fit (standing_after (steps_of bytes) calls) = standing-fit (steps_of bytes) (fields_of bytes) (fields_fit (length bytes) state.Edition (length bytes) bytes h) [] tt in
+    let rs : List Row = map (filled (answer_of bytes)) (standing_after (steps_of bytes) calls) in
+    let same : (b : List Entry) → standing_after (steps_of bytes) calls ≡ b → Stands bytes (tally_of (edition_of (fields_of bytes)) (answer_of bytes) b) =
+    λ b q. subst (λ z. Stands bytes (tally_of (edition_of (fields_of bytes)) (answer_of bytes) z)) q
     (record {
       edition = refl;
       rows = refl;
-      totals = holds (steps_of bytes) (answer_of bytes) (λ w _. under-keeps (mountOf (fields_of bytes)) (editionOf (fields_of bytes)) w) calls rs (record { speed = speedOf rs; along = alongOf rs; across = acrossOf rs }) (record { order = Permᴰ.refl rs; words = words }) refl refl refl;
+      totals = holds (steps_of bytes) (answer_of bytes) (λ w _. under-keeps (mount_of (fields_of bytes)) (edition_of (fields_of bytes)) w) calls rs (record { speed = speed_of rs; along = along_of rs; across = across_of rs }) (record { order = Permᴰ.refl rs; words = words }) refl refl refl;
     }) in
     same book is
 
-record-means : (room : ℕ) (bytes : List ℕ) → 96 ≤ room → length bytes ≤ 65536 → Bytes bytes → Means room bytes (recordTally bytes)
-unfolding recordTally
+record-means : (room : ℕ) (bytes : List ℕ) → 96 ≤ room → length bytes ≤ 65536 → Bytes bytes → Means room bytes (record_tally bytes)
+unfolding record_tally
 record-means room [] r l h = inr (inr (r, l, inl (refl, refl)))
 record-means room (b ∷ bs) r l h =
     let bytes : List ℕ = b ∷ bs in
-    let go : (q : Result (List Entry) RecordFault) → replay (steps_of bytes) [] (fields_of bytes) ≡ q → Means room bytes (and_then q (λ book. Ok (tally_of (editionOf (fields_of bytes)) (answer_of bytes) book))) =
-    λ q. elim q as (λ q. replay (steps_of bytes) [] (fields_of bytes) ≡ q → Means room bytes (and_then q (λ book. Ok (tally_of (editionOf (fields_of bytes)) (answer_of bytes) book))))
+    let go : (q : Result (List Entry) RecordFault) → replay (steps_of bytes) [] (fields_of bytes) ≡ q → Means room bytes (and_then q (λ book. Ok (tally_of (edition_of (fields_of bytes)) (answer_of bytes) book))) =
+    λ q. elim q as (λ q. replay (steps_of bytes) [] (fields_of bytes) ≡ q → Means room bytes (and_then q (λ book. Ok (tally_of (edition_of (fields_of bytes)) (answer_of bytes) book))))
     [ Ok book ↦ λ e. (r, l, stands bytes book h e) | Err f ↦ λ e. inr (inr (r, l, inr (first-no (steps_of bytes) [] [] (fields_of bytes) f refl e))) ] in
     go (replay (steps_of bytes) [] (fields_of bytes)) refl
 
-pub outcome-means : (room : ℕ) (bytes : List ℕ) → ((i : ℕ) → get_or bytes i 0 < 256) → Means room bytes (outcomeOf room bytes)
+pub outcome-means : (room : ℕ) (bytes : List ℕ) → ((i : ℕ) → get_or bytes i 0 < 256) → Means room bytes (outcome_of room bytes)
 unfolding Bytes
 outcome-means room bytes h =
-    let long : (t : Bool) → ltb 65536 (length bytes) ≡ t → 96 ≤ room → Means room bytes (cond t (Err (record { cause = TooLong; offset = 0 })) (recordTally bytes)) =
-    λ t. elim t as (λ t. ltb 65536 (length bytes) ≡ t → 96 ≤ room → Means room bytes (cond t (Err (record { cause = TooLong; offset = 0 })) (recordTally bytes)))
+    let long : (t : Bool) → ltb 65536 (length bytes) ≡ t → 96 ≤ room → Means room bytes (cond t (Err (record { cause = TooLong; offset = 0 })) (record_tally bytes)) =
+    λ t. elim t as (λ t. ltb 65536 (length bytes) ≡ t → 96 ≤ room → Means room bytes (cond t (Err (record { cause = TooLong; offset = 0 })) (record_tally bytes)))
     [ true ↦ λ e r. inr (inl (r, ltb-true 65536 (length bytes) e, refl)) | false ↦ λ e r. record-means room bytes r (ltb-false 65536 (length bytes) e) h ] in
-    let small : (t : Bool) → ltb room 96 ≡ t → Means room bytes (cond t (Err (record { cause = Buffer; offset = 0 })) (cond (ltb 65536 (length bytes)) (Err (record { cause = TooLong; offset = 0 })) (recordTally bytes))) =
-    λ t. elim t as (λ t. ltb room 96 ≡ t → Means room bytes (cond t (Err (record { cause = Buffer; offset = 0 })) (cond (ltb 65536 (length bytes)) (Err (record { cause = TooLong; offset = 0 })) (recordTally bytes))))
+    let small : (t : Bool) → ltb room 96 ≡ t → Means room bytes (cond t (Err (record { cause = Buffer; offset = 0 })) (cond (ltb 65536 (length bytes)) (Err (record { cause = TooLong; offset = 0 })) (record_tally bytes))) =
+    λ t. elim t as (λ t. ltb room 96 ≡ t → Means room bytes (cond t (Err (record { cause = Buffer; offset = 0 })) (cond (ltb 65536 (length bytes)) (Err (record { cause = TooLong; offset = 0 })) (record_tally bytes))))
     [ true ↦ λ e. inl (ltb-true room 96 e, refl) | false ↦ λ e. long (ltb 65536 (length bytes)) refl (ltb-false room 96 e) ] in
     small (ltb room 96) refl

@@ -38,10 +38,10 @@ unfolding line
 length-line word number = length-append (word ++ number) (10 ∷ []) ∙ ap (λ k. k + 1) (length-append word number)
 
 -- a line in its three pieces
-pub put-as-line : (page0 page1 page2 page3 : List ℕ) (at a b e : ℕ) (word number : List ℕ) → at + length (line word number) ≤ length page0 → page1 ≡ pasted page0 at word → a ≡ at + length word → page2 ≡ pasted page1 a number → b ≡ a + length number → page3 ≡ pasted page2 b (10 ∷ []) → e ≡ b + 1
+pub put_as_line : (page0 page1 page2 page3 : List ℕ) (at a b e : ℕ) (word number : List ℕ) → at + length (line word number) ≤ length page0 → page1 ≡ pasted page0 at word → a ≡ at + length word → page2 ≡ pasted page1 a number → b ≡ a + length number → page3 ≡ pasted page2 b (10 ∷ []) → e ≡ b + 1
     → (page3 ≡ pasted page0 at (line word number)) × (e ≡ at + length (line word number))
 unfolding line
-put-as-line page0 page1 page2 page3 at a b e word number h p1 ea p2 eb p3 ee =
+put_as_line page0 page1 page2 page3 at a b e word number h p1 ea p2 eb p3 ee =
     let l = length-line word number in
     let w : length (word ++ number) ≡ length word + length number = length-append word number in
     let q = further page0 page1 page2 at a word number (omega arith) p1 ea p2 in

@@ -19,9 +19,9 @@ and_then (Ok x) f = f x
 and_then (Err e) f = Err e
 
 -- the number of an edition
-abbrev pub editionNumber : Edition → ℕ
-editionNumber edition.Radians = 5
-editionNumber edition.HalfTurns = 6
+abbrev pub edition_number : Edition → ℕ
+edition_number edition.Radians = 5
+edition_number edition.HalfTurns = 6
 
 -- a field taken apart, with the bytes after it
 pub record Cut : Type 0 where
@@ -37,14 +37,14 @@ cut (t ∷ hi ∷ []) = Err cause.Short
 cut (t ∷ hi ∷ lo ∷ rest) = cond (nat_lt (length rest) (256 * hi + lo)) (Err cause.Short) (Ok (record { tag = t; body = take (256 * hi + lo) rest; rest = drop (256 * hi + lo) rest }))
 
 -- the tags that may stand from the second field on
-abbrev pub rowTags : ℕ → Result (Kind × State) Cause
-rowTags tag = cond (tag == 3) (Ok (kind.Enter, state.Rows)) (cond (tag == 4) (Ok (kind.Withdraw, state.Rows)) (cond (tag == 5) (Ok (kind.Correct, state.Rows)) (Err cause.Tag)))
+abbrev pub row_tags : ℕ → Result (Kind × State) Cause
+row_tags tag = cond (tag == 3) (Ok (kind.Enter, state.Rows)) (cond (tag == 4) (Ok (kind.Withdraw, state.Rows)) (cond (tag == 5) (Ok (kind.Correct, state.Rows)) (Err cause.Tag)))
 
 -- may the tag stand here: 1 first only, 2 second only, 3 to 5 after the first; and the state after it
 abbrev pub next : State → ℕ → Result (Kind × State) Cause
 next state.Edition tag = cond (tag == 1) (Ok (kind.Edition, state.Mount)) (Err cause.Tag)
-next state.Mount tag = cond (tag == 2) (Ok (kind.Mount, state.Rows)) (rowTags tag)
-next state.Rows tag = rowTags tag
+next state.Mount tag = cond (tag == 2) (Ok (kind.Mount, state.Rows)) (row_tags tag)
+next state.Rows tag = row_tags tag
 
 -- the length of a body, by its kind
 abbrev pub length_of : Kind → ℕ
@@ -67,17 +67,17 @@ abbrev pub entry_of : List ℕ → Entry
 entry_of body = record { sample = wide body 0; speed = wide body 2; word = wide body 4 * 65536 + wide body 6 }
 
 -- edition 5 or 6
-abbrev pub editionItem : ℕ → Result Item Cause
-editionItem b = cond (b == 5) (Ok (item.Edition edition.Radians)) (cond (b == 6) (Ok (item.Edition edition.HalfTurns)) (Err cause.Value))
+abbrev pub edition_item : ℕ → Result Item Cause
+edition_item b = cond (b == 5) (Ok (item.Edition edition.Radians)) (cond (b == 6) (Ok (item.Edition edition.HalfTurns)) (Err cause.Value))
 
 -- 0 to 3 quarter turns, mirror 0 or 1
-abbrev pub mountItem : ℕ → ℕ → Result Item Cause
-mountItem q m = cond (nat_lt 3 q || nat_lt 1 m) (Err cause.Value) (Ok (item.Mount (record { quarters = q; mirrored = (m == 1) })))
+abbrev pub mount_item : ℕ → ℕ → Result Item Cause
+mount_item q m = cond (nat_lt 3 q || nat_lt 1 m) (Err cause.Value) (Ok (item.Mount (record { quarters = q; mirrored = (m == 1) })))
 
 -- what a body of the right length says, if its values are allowed
 abbrev pub item_of : Kind → List ℕ → Result Item Cause
-item_of kind.Edition body = editionItem (slice_index body 0)
-item_of kind.Mount body = mountItem (slice_index body 0) (slice_index body 1)
+item_of kind.Edition body = edition_item (slice_index body 0)
+item_of kind.Mount body = mount_item (slice_index body 0) (slice_index body 1)
 item_of kind.Enter body = Ok (item.Put (call.Enter (entry_of body)))
 item_of kind.Withdraw body = Ok (item.Put (call.Withdraw (wide body 0)))
 item_of kind.Correct body = Ok (item.Put (call.Correct (entry_of body)))

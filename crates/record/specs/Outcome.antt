@@ -4,7 +4,7 @@ use Rattle.readers.specs.Meaning.{Steps, Reading}
 use Rattle.sheets.specs.declared.book.Call.{Call}
 use Rattle.sheets.specs.declared.book.Entry.{Entry}
 use Rattle.sheets.specs.declared.fault.SheetFault.{SheetFault}
-use Rattle.sheets.specs.Book.{asked, given, written, standingAfter}
+use Rattle.sheets.specs.Book.{asked, given, written, standing_after}
 use Rattle.sheets.specs.Runs.{filled}
 use Rattle.law.specs.Law.{Holds}
 use Rattle.record.specs.declared.fault.Cause.{Cause}
@@ -13,15 +13,15 @@ use Rattle.record.specs.declared.fault.RecordFault.{RecordFault}
 use Rattle.record.specs.declared.item.Item.{Item}
 use Rattle.record.specs.declared.item.Item.TheVariants as item
 use Rattle.record.specs.declared.tally.Tally.{Tally}
-use Rattle.record.specs.Record.{Field, fields_of, editionOf, mountOf, editionSteps, editionAnswer, stepsUnder, answerUnder}
+use Rattle.record.specs.Record.{Field, fields_of, edition_of, mount_of, edition_steps, edition_answer, steps_under, answer_under}
 
 -- the meaning of a record's words: its edition's, under its mount
 abbrev pub steps_of : List ℕ → ℕ → Steps
-steps_of bytes = stepsUnder (mountOf (fields_of bytes)) (editionSteps (editionOf (fields_of bytes)))
+steps_of bytes = steps_under (mount_of (fields_of bytes)) (edition_steps (edition_of (fields_of bytes)))
 
 -- what its reader answers
 abbrev pub answer_of : List ℕ → ℕ → Reading
-answer_of bytes = answerUnder (mountOf (fields_of bytes)) (editionAnswer (editionOf (fields_of bytes)))
+answer_of bytes = answer_under (mount_of (fields_of bytes)) (edition_answer (edition_of (fields_of bytes)))
 
 -- the call that a field says, before others
 abbrev pub calling : Result Item Cause → List Call → List Call
@@ -31,15 +31,15 @@ calling (Ok (item.Put call)) calls = call ∷ calls
 calling (Err c) calls = calls
 
 -- the calls of the fields, in their order
-abbrev pub callsIn : List Field → List Call
-callsIn [] = []
-callsIn (f ∷ fs) = calling f.said (callsIn fs)
+abbrev pub calls_in : List Field → List Call
+calls_in [] = []
+calls_in (f ∷ fs) = calling f.said (calls_in fs)
 
 -- a report's numbers: the count and the totals of the rows standing after the record's calls, along and across near the exact ones
 pub record Stands (bytes : List ℕ) (t : Tally) : Type 0 where
-  pub edition : t.edition ≡ editionOf (fields_of bytes)
-  pub rows : t.rows ≡ length (standingAfter (steps_of bytes) (callsIn (fields_of bytes)))
-  pub totals : Holds (steps_of bytes) (answer_of bytes) (callsIn (fields_of bytes)) (map (filled (answer_of bytes)) (standingAfter (steps_of bytes) (callsIn (fields_of bytes)))) (record { speed = t.speed; along = t.along; across = t.across })
+  pub edition : t.edition ≡ edition_of (fields_of bytes)
+  pub rows : t.rows ≡ length (standing_after (steps_of bytes) (calls_in (fields_of bytes)))
+  pub totals : Holds (steps_of bytes) (answer_of bytes) (calls_in (fields_of bytes)) (map (filled (answer_of bytes)) (standing_after (steps_of bytes) (calls_in (fields_of bytes)))) (record { speed = t.speed; along = t.along; across = t.across })
 
 -- what a field says gets a yes, where this book stands
 abbrev pub Yes : (ℕ → Steps) → List Entry → Item → Type 0
@@ -74,8 +74,8 @@ pub record FirstNo (steps : ℕ → Steps) (fields : List Field) (f : RecordFaul
   pub place : f.offset ≡ decides.at
 
 -- the question of the buffer, then that of the length, then a record's own: an empty one has no tag, else the first field with a no
-abbrev pub Refused-first : ℕ → List ℕ → RecordFault → Type 0
-Refused-first room bytes f =
+abbrev pub RefusedFirst : ℕ → List ℕ → RecordFault → Type 0
+RefusedFirst room bytes f =
     ((room < 96) × (f ≡ record { cause = Buffer; offset = 0 }))
     ⊎ ((96 ≤ room) × (65536 < length bytes) × (f ≡ record { cause = TooLong; offset = 0 }))
     ⊎ ((96 ≤ room) × (length bytes ≤ 65536) × (((bytes ≡ []) × (f ≡ record { cause = Tag; offset = 0 })) ⊎ FirstNo (steps_of bytes) (fields_of bytes) f))
@@ -83,4 +83,4 @@ Refused-first room bytes f =
 -- what an outcome means
 abbrev pub Means : ℕ → List ℕ → Result Tally RecordFault → Type 0
 Means room bytes (Ok t) = (96 ≤ room) × (length bytes ≤ 65536) × Stands bytes t
-Means room bytes (Err f) = Refused-first room bytes f
+Means room bytes (Err f) = RefusedFirst room bytes f

@@ -8,7 +8,7 @@ use Rattle.record.specs.declared.edition.Mount.{Mount}
 use Rattle.record.specs.declared.fault.RecordFault.{RecordFault}
 use Rattle.record.specs.declared.state.State.{State}
 use Rattle.record.specs.declared.state.State.TheVariants as state
-use Rattle.record.specs.Record.{firstMount, fields, replay}
+use Rattle.record.specs.Record.{first_mount, fields, replay}
 
 -- the outcome is that of what is left, on a book that the sheet's rows are
 pub record Reached (steps : ℕ → Steps) (answer : ℕ → Reading) (total : ℕ) (outcome : Result (List Entry) RecordFault) (rest : List ℕ) (state : State) (rows : List Row) : Type 0 where
@@ -26,19 +26,19 @@ Follows answer rows (Err e) (Ok x) = ⊥
 Follows answer rows (Err e) (Err f) = e ≡ f
 
 -- the quarter turns of a mount, none without one
-abbrev pub quartersOf : Option Mount → ℕ
-quartersOf None = 0
-quartersOf (Some m) = m.quarters
+abbrev pub quarters_of : Option Mount → ℕ
+quarters_of None = 0
+quarters_of (Some m) = m.quarters
 
 -- a mount has 0 to 3 quarter turns
 abbrev pub Allowed : Option Mount → Type 0
-Allowed m = quartersOf m ≤ 3
+Allowed m = quarters_of m ≤ 3
 
 -- the same for every book
 pub record Continues (n : ℕ) (total : ℕ) (bytes : List ℕ) (mount : Option Mount) (rest : List ℕ) (after : State) : Type 0 where
   pub fuel : ℕ
   pub enough : length rest ≤ fuel
-  pub first : firstMount (fields n state.Mount total bytes) ≡ mount
+  pub first : first_mount (fields n state.Mount total bytes) ≡ mount
   pub same : (steps : ℕ → Steps) (book : List Entry) → replay steps book (fields n state.Mount total bytes) ≡ replay steps book (fields fuel after total rest)
 
 -- the bytes after the edition: their mount, and the rows after it

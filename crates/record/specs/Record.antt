@@ -1,11 +1,11 @@
 -- What a record says: its fields in their order, and the outcome of the questions put to them. Definitions only.
 use Rattle.std.specs.Prelude.{ℕ, zero, suc, ◌-◌, Bool, true, false, List, [], ◌∷◌, map, length, Some, None, Ok, Err, Option, Result}
-use Rattle.readers.specs.Meaning.{Steps, Reading, turnedSteps, turnedAnswer, mirroredSteps, mirroredAnswer}
-use Rattle.readers.specs.Editions.{radianMeaning, radianAnswer, halfTurnMeaning, halfTurnAnswer}
+use Rattle.readers.specs.Meaning.{Steps, Reading, turned_steps, turned_answer, mirrored_steps, mirrored_answer}
+use Rattle.readers.specs.Editions.{radian_meaning, radian_answer, half_turn_meaning, half_turn_answer}
 use Rattle.sheets.specs.declared.book.Entry.{Entry}
 use Rattle.sheets.specs.declared.fault.SheetFault.{SheetFault}
 use Rattle.sheets.specs.Book.{asked, given, written}
-use Rattle.sheets.specs.Rows.{speedOf, alongOf, acrossOf}
+use Rattle.sheets.specs.Rows.{speed_of, along_of, across_of}
 use Rattle.sheets.specs.Runs.{filled}
 use Rattle.record.specs.declared.edition.Edition.{Edition}
 use Rattle.record.specs.declared.edition.Edition.TheVariants as edition
@@ -68,73 +68,73 @@ replay steps book [] = Ok book
 replay steps book (f ∷ fs) = and_then (made steps book f) (λ b. replay steps b fs)
 
 -- the edition that the first field says
-abbrev pub saidEdition : Result Item Cause → Edition
-saidEdition (Ok (item.Edition e)) = e
-saidEdition (Ok (item.Mount m)) = edition.Radians
-saidEdition (Ok (item.Put c)) = edition.Radians
-saidEdition (Err c) = edition.Radians
+abbrev pub said_edition : Result Item Cause → Edition
+said_edition (Ok (item.Edition e)) = e
+said_edition (Ok (item.Mount m)) = edition.Radians
+said_edition (Ok (item.Put c)) = edition.Radians
+said_edition (Err c) = edition.Radians
 
 -- of a record's fields
-abbrev pub editionOf : List Field → Edition
-editionOf [] = edition.Radians
-editionOf (f ∷ fs) = saidEdition f.said
+abbrev pub edition_of : List Field → Edition
+edition_of [] = edition.Radians
+edition_of (f ∷ fs) = said_edition f.said
 
 -- the mount that a field says, if it says one
-abbrev pub saidMount : Result Item Cause → Option Mount
-saidMount (Ok (item.Edition e)) = None
-saidMount (Ok (item.Mount m)) = Some m
-saidMount (Ok (item.Put c)) = None
-saidMount (Err c) = None
+abbrev pub said_mount : Result Item Cause → Option Mount
+said_mount (Ok (item.Edition e)) = None
+said_mount (Ok (item.Mount m)) = Some m
+said_mount (Ok (item.Put c)) = None
+said_mount (Err c) = None
 
 -- that of the first of these fields
-abbrev pub firstMount : List Field → Option Mount
-firstMount [] = None
-firstMount (f ∷ fs) = saidMount f.said
+abbrev pub first_mount : List Field → Option Mount
+first_mount [] = None
+first_mount (f ∷ fs) = said_mount f.said
 
 -- of a record's fields: the second may say one
-abbrev pub mountOf : List Field → Option Mount
-mountOf [] = None
-mountOf (f ∷ fs) = firstMount fs
+abbrev pub mount_of : List Field → Option Mount
+mount_of [] = None
+mount_of (f ∷ fs) = first_mount fs
 
 -- the steps of a word of an edition
-abbrev pub editionSteps : Edition → ℕ → Steps
-editionSteps edition.Radians = radianMeaning
-editionSteps edition.HalfTurns = halfTurnMeaning
+abbrev pub edition_steps : Edition → ℕ → Steps
+edition_steps edition.Radians = radian_meaning
+edition_steps edition.HalfTurns = half_turn_meaning
 
 -- what the edition's reader answers
-abbrev pub editionAnswer : Edition → ℕ → Reading
-editionAnswer edition.Radians = radianAnswer
-editionAnswer edition.HalfTurns = halfTurnAnswer
+abbrev pub edition_answer : Edition → ℕ → Reading
+edition_answer edition.Radians = radian_answer
+edition_answer edition.HalfTurns = half_turn_answer
 
 -- mirrored, if so said
-abbrev pub mirrorSteps : Bool → Steps → Steps
-mirrorSteps true u = mirroredSteps u
-mirrorSteps false u = u
+abbrev pub mirror_steps : Bool → Steps → Steps
+mirror_steps true u = mirrored_steps u
+mirror_steps false u = u
 
 -- the answer likewise
-abbrev pub mirrorAnswer : Bool → Reading → Reading
-mirrorAnswer true a = mirroredAnswer a
-mirrorAnswer false a = a
+abbrev pub mirror_answer : Bool → Reading → Reading
+mirror_answer true a = mirrored_answer a
+mirror_answer false a = a
 
 -- steps under the mount: mirroring lies below turning
-abbrev pub stepsUnder : Option Mount → (ℕ → Steps) → ℕ → Steps
-stepsUnder None steps w = steps w
-stepsUnder (Some m) steps w = turnedSteps m.quarters (mirrorSteps m.mirrored (steps w))
+abbrev pub steps_under : Option Mount → (ℕ → Steps) → ℕ → Steps
+steps_under None steps w = steps w
+steps_under (Some m) steps w = turned_steps m.quarters (mirror_steps m.mirrored (steps w))
 
 -- answers under the mount
-abbrev pub answerUnder : Option Mount → (ℕ → Reading) → ℕ → Reading
-answerUnder None answer w = answer w
-answerUnder (Some m) answer w = turnedAnswer m.quarters (mirrorAnswer m.mirrored (answer w))
+abbrev pub answer_under : Option Mount → (ℕ → Reading) → ℕ → Reading
+answer_under None answer w = answer w
+answer_under (Some m) answer w = turned_answer m.quarters (mirror_answer m.mirrored (answer w))
 
 -- what is reported of the rows standing: their count and the totals of their shares
 abbrev pub tally_of : Edition → (ℕ → Reading) → List Entry → Tally
-tally_of e answer book = record { edition = e; rows = length book; speed = speedOf (map (filled answer) book); along = alongOf (map (filled answer) book); across = acrossOf (map (filled answer) book) }
+tally_of e answer book = record { edition = e; rows = length book; speed = speed_of (map (filled answer) book); along = along_of (map (filled answer) book); across = across_of (map (filled answer) book) }
 
 -- by an edition and a mount, from the fields
 abbrev pub tallied : Edition → Option Mount → List Field → Result Tally RecordFault
-tallied e m fs = and_then (replay (stepsUnder m (editionSteps e)) [] fs) (λ book. Ok (tally_of e (answerUnder m (editionAnswer e)) book))
+tallied e m fs = and_then (replay (steps_under m (edition_steps e)) [] fs) (λ book. Ok (tally_of e (answer_under m (edition_answer e)) book))
 
 -- of a record: an empty one is refused by its missing tag
-unfoldable pub recordTally : List ℕ → Result Tally RecordFault
-recordTally [] = Err (record { cause = Tag; offset = 0 })
-recordTally (b ∷ bs) = tallied (editionOf (fields_of (b ∷ bs))) (mountOf (fields_of (b ∷ bs))) (fields_of (b ∷ bs))
+unfoldable pub record_tally : List ℕ → Result Tally RecordFault
+record_tally [] = Err (record { cause = Tag; offset = 0 })
+record_tally (b ∷ bs) = tallied (edition_of (fields_of (b ∷ bs))) (mount_of (fields_of (b ∷ bs))) (fields_of (b ∷ bs))

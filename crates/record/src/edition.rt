@@ -1,6 +1,6 @@
 // How a record's headings count, and how its module sits.
 ghost use Rattle.std.specs.Prelude.{◌≡◌};
-ghost use Rattle.record.specs.Fields.{editionNumber};
+ghost use Rattle.record.specs.Fields.{edition_number};
 
 #[derive(Clone, Copy)]
 pub enum Edition {
@@ -11,7 +11,7 @@ pub enum Edition {
 impl Edition {
     // Its number, 5 or 6.
     pub fn number(self) -> u8
-        ensures { result ≡ editionNumber self }
+        ensures { result ≡ edition_number self }
     {
         match self {
             Edition::Radians => 5,

@@ -1,7 +1,7 @@
 // Why a record is refused, and where.
 ghost use Rattle.std.specs.Prelude.{◌≡◌};
 ghost use Rattle.record.specs.declared.fault.Cause.TheVariants.{Refused};
-ghost use Rattle.record.specs.Refusals.{causeNumber, located};
+ghost use Rattle.record.specs.Refusals.{cause_number, located};
 
 use sheets::fault::SheetFault;
 
@@ -26,7 +26,7 @@ pub enum Cause {
 impl Cause {
     // Its refusal number.
     pub fn number(self) -> u8
-        ensures { result ≡ causeNumber self }
+        ensures { result ≡ cause_number self }
     {
         match self {
             Cause::Buffer => 1,

@@ -1,6 +1,6 @@
 // What a field says: the edition, the mount, or a call on the sheet.
 ghost use Rattle.std.specs.Prelude.{◌≡◌, ◌+◌, ◌*◌, length, Ok, Err, MatchResult};
-ghost use Rattle.record.specs.Fields.{length_of, item_of, entry_of, editionItem, mountItem, field_at};
+ghost use Rattle.record.specs.Fields.{length_of, item_of, entry_of, edition_item, mount_item, field_at};
 
 use crate::edition::{Edition, Mount};
 use crate::fault::{Cause, RecordFault};
@@ -24,7 +24,7 @@ pub struct Taken<'a> {
 }
 
 fn edition_item(b: u8) -> Result<Item, Cause>
-    ensures { result ≡ editionItem b }
+    ensures { result ≡ edition_item b }
 {
     match b {
         5 => Ok(Item::Edition(Edition::Radians)),
@@ -34,7 +34,7 @@ fn edition_item(b: u8) -> Result<Item, Cause>
 }
 
 fn mount_item(quarters: u8, mirror: u8) -> Result<Item, Cause>
-    ensures { result ≡ mountItem quarters mirror }
+    ensures { result ≡ mount_item quarters mirror }
 {
     if quarters > 3 || mirror > 1 {
         return Err(Cause::Value);

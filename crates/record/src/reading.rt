@@ -1,8 +1,8 @@
 // A whole record: its edition, its mount, and the rows under them.
 ghost use Rattle.std.specs.Prelude.{◌≡◌, ℕ, ◌≤◌, [], length, None, Ok};
-ghost use Rattle.readers.specs.Meaning.{turnedSteps, turnedAnswer};
+ghost use Rattle.readers.specs.Meaning.{turned_steps, turned_answer};
 ghost use Rattle.record.specs.Fields.{and_then};
-ghost use Rattle.record.specs.Record.{fields, replay, saidMount, tally_of, stepsUnder, answerUnder, recordTally};
+ghost use Rattle.record.specs.Record.{fields, replay, said_mount, tally_of, steps_under, answer_under, record_tally};
 ghost use Rattle.record.specs.Reached.{Allowed, Opens};
 
 use crate::edition::{Edition, Mount};
@@ -49,7 +49,7 @@ fn tally_turned<R: Reader + Drop>(
     state: State,
 ) -> Result<Tally, RecordFault>
     requires { (quarters ≤ 3) × (length rest.now ≤ total) }
-    ensures { (n : ℕ) → length rest.now ≤ n → result ≡ and_then (replay (λ w. turnedSteps quarters (R.Reader.steps below w)) [] (fields n state total rest.now)) (λ book. Ok (tally_of edition (λ w. turnedAnswer quarters (R.Reader.answer below w)) book)) }
+    ensures { (n : ℕ) → length rest.now ≤ n → result ≡ and_then (replay (λ w. turned_steps quarters (R.Reader.steps below w)) [] (fields n state total rest.now)) (λ book. Ok (tally_of edition (λ w. turned_answer quarters (R.Reader.answer below w)) book)) }
 {
     match Turned::new(below, quarters) {
         Ok(mounted) => tally_rows(mounted, edition, total, rest, state),
@@ -67,7 +67,7 @@ fn tally_under<R: Reader + Drop>(
     state: State,
 ) -> Result<Tally, RecordFault>
     requires { (Allowed mount) × (length rest.now ≤ total) }
-    ensures { (n : ℕ) → length rest.now ≤ n → result ≡ and_then (replay (stepsUnder mount (R.Reader.steps below)) [] (fields n state total rest.now)) (λ book. Ok (tally_of edition (answerUnder mount (R.Reader.answer below)) book)) }
+    ensures { (n : ℕ) → length rest.now ≤ n → result ≡ and_then (replay (steps_under mount (R.Reader.steps below)) [] (fields n state total rest.now)) (λ book. Ok (tally_of edition (answer_under mount (R.Reader.answer below)) book)) }
 {
     match mount {
         None => tally_rows(below, edition, total, rest, state),
@@ -106,7 +106,7 @@ impl Opened<'_> {
 
 // The mount that a field says, if it says one.
 pub fn mount_in(item: Item) -> Option<Mount>
-    ensures { result ≡ saidMount (Ok item) }
+    ensures { result ≡ said_mount (Ok item) }
 {
     match item {
         Item::Mount(m) => Some(m),
@@ -133,7 +133,7 @@ fn take_mount(bytes: &[u8]) -> Opened<'_>
 
 // What the record comes to, or where it is refused.
 pub fn read_record(record: &[u8]) -> Result<Tally, RecordFault>
-    ensures { result ≡ recordTally «record».now }
+    ensures { result ≡ record_tally «record».now }
 {
     if record.is_empty() {
         return Err(RecordFault {

@@ -1,7 +1,7 @@
 // A report of a record, or the line of its refusal, in a lent buffer.
 ghost use Rattle.std.specs.Prelude.{◌≡◌, ◌+◌, ◌<◌, ◌≤◌, length};
 ghost use Rattle.record.specs.Outcome.{Means};
-ghost use Rattle.record.specs.Page.{pasted, lines, refusal, outcomeOf, Reported, Told};
+ghost use Rattle.record.specs.Page.{pasted, lines, refusal, outcome_of, Reported, Told};
 
 use crate::edition::Edition;
 use crate::fault::{Cause, RecordFault};
@@ -36,8 +36,8 @@ fn write_lines(
 // The report of a record, from the buffer's first byte on, and its length; a refusal writes nothing.
 // The first no decides; the printed totals are within 33 units for each cm/s standing of the exact ones.
 pub fn report(bytes: &[u8], buffer: &mut [u8]) -> Result<usize, RecordFault>
-    ensures outcome { Reported (outcomeOf (length buffer.old) bytes.now) result buffer.old buffer.new }
-    ensures means { Means (length buffer.old) bytes.now (outcomeOf (length buffer.old) bytes.now) }
+    ensures outcome { Reported (outcome_of (length buffer.old) bytes.now) result buffer.old buffer.new }
+    ensures means { Means (length buffer.old) bytes.now (outcome_of (length buffer.old) bytes.now) }
 {
     if buffer.len() < ROOM {
         return Err(RecordFault {

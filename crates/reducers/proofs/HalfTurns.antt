@@ -7,17 +7,17 @@ use Rattle.std.specs.Float.{float_round}
 use lib.Ieee.Fits.{add-fits, mul-fits}
 use lib.Ieee.Scale.{finite}
 use Rattle.exact.specs.Rounded.{Rounded}
-use Rattle.exact.specs.Fraction.{Fraction, ◌⊑◌, ◌≈◌, ◌⊕◌, ◌⊗◌, ◌⊖◌, neg, whole, Size, leq, frac, sizeTest}
+use Rattle.exact.specs.Fraction.{Fraction, ◌⊑◌, ◌≈◌, ◌⊕◌, ◌⊗◌, ◌⊖◌, neg, whole, Size, leq, frac, size_test}
 use Rattle.exact.specs.Value.{value_of, integer}
 use Rattle.exact.specs.Multiple.{pw, Multiple, Smaller}
-use Rattle.exact.proofs.Order.{by-test, ≈-refl, ≈-sym, ≈-trans, ⊕-cong, ⊗-cong, neg-cong, size-⊑, size-⊗, size-near, ⊑_trans, ≈→⊑, size-≈, size-by-test, gap, ⊗-comm}
+use Rattle.exact.proofs.Order.{by-test, ≈-refl, ≈-sym, ≈-trans, ⊕-cong, ⊗-cong, neg_cong, size-⊑, size-⊗, size-near, ⊑_trans, ≈→⊑, size-≈, size-by-test, gap, ⊗-comm}
 use Rattle.exact.proofs.Poly.{var, con, ◌:+◌, ◌:*◌, ◌:-◌, same, free}
 use Rattle.exact.proofs.Cert.{ring}
 use Rattle.exact.proofs.Rounding.{add-rounded, mul-rounded}
 use Rattle.exact.proofs.Powers.{Same}
 use Rattle.exact.proofs.Multiple.{smaller-size, multiple-≈, multiple-unit, multiple-⊗, multiple-⊕, multiple-trans, pw-same, pw-mul, pw-le, pw-multiple, exact-at, one-pw}
 use Rattle.exact.proofs.Away.{away, away-small, cast-exact, grid-of}
-use Rattle.reducers.specs.Reduce.{thirtytwo, minusHalf, nearestWhole, count, fmla, reducePi, reduceQuarter}
+use Rattle.reducers.specs.Reduce.{thirtytwo, minus_half, nearest_whole, count, fmla, reduce_pi, reduce_quarter}
 use Rattle.reducers.specs.Exact.{PiReduced, QuarterReduced}
 use Rattle.reducers.proofs.Shared.{pair}
 use Rattle.reducers.proofs.Regions.{by-range}
@@ -39,15 +39,15 @@ unfolding of_bits of_fields odd count_trailing_zeros size
 thirtytwo-grid = record { p = 1; m = 0; is = record { eq = refl } }
 
 thirtytwo-size : Size (value_of thirtytwo) (pw 5 0)
-unfolding of_bits of_fields odd count_trailing_zeros size sizeTest
+unfolding of_bits of_fields odd count_trailing_zeros size size_test
 thirtytwo-size = size-by-test (value_of thirtytwo) (pw 5 0) tt
 
 thirtytwo-finite : T (finite thirtytwo)
 unfolding of_bits of_fields odd count_trailing_zeros size
 thirtytwo-finite = tt
 
-pub pi : (x : Float) → T (finite x) → T (fits binary64 x) → Size (value_of x) (pw 24 0) → PiReduced x (reducePi x).0 (reducePi x).1
-unfolding reducePi sub leq
+pub pi : (x : Float) → T (finite x) → T (fits binary64 x) → Size (value_of x) (pw 24 0) → PiReduced x (reduce_pi x).0 (reduce_pi x).1
+unfolding reduce_pi sub leq
 pi x p h z =
     let X = value_of x in
     let C = value_of thirtytwo in
@@ -55,7 +55,7 @@ pi x p h z =
     let prod = mul binary64 x thirtytwo in
     let P : Same prod (X ⊗ C) = scaled_exact prod (X ⊗ C) X C 5 G.place G.under (lit≤ tt) (≈-refl (X ⊗ C)) thirtytwo-grid thirtytwo-size G.grid G.size (mul-rounded binary64 x thirtytwo p thirtytwo-finite) in
     let K = away binary64 prod P.fin (mul-fits binary64 x thirtytwo) in
-    let k = nearestWhole prod in
+    let k = nearest_whole prod in
     let S : Size (value_of k) (whole (2 ^ 57 - 1)) = size-⊑ (by-test {a = pw 24 0 ⊗ pw 5 0 ⊕ frac 1 2} {b = whole (2 ^ 57 - 1)} tt) (size-near K.near (size-≈ (≈-sym P.is) (size-⊗ z thirtytwo-size))) in
     let A : integer (count k) ≈ value_of k = cast-exact 63 (2 ^ 57 - 1) k K.fin K.integral S (lit< tt) in
     record {
@@ -65,21 +65,21 @@ pi x p h z =
     }
 
 -- ---- quarter turns
-minusHalf-is : value_of minusHalf ≈ neg (frac 1 2)
+minus_half-is : value_of minus_half ≈ neg (frac 1 2)
 unfolding negate of_bits of_fields odd count_trailing_zeros size
-minusHalf-is = record { eq = refl }
+minus_half-is = record { eq = refl }
 
-minusHalf-grid : Multiple (value_of minusHalf) (pw 0 1)
+minus_half-grid : Multiple (value_of minus_half) (pw 0 1)
 unfolding negate of_bits of_fields odd count_trailing_zeros size
-minusHalf-grid = record { p = 0; m = 1; is = record { eq = refl } }
+minus_half-grid = record { p = 0; m = 1; is = record { eq = refl } }
 
-minusHalf-size : Size (value_of minusHalf) (pw 0 1)
-unfolding negate of_bits of_fields odd count_trailing_zeros size sizeTest
-minusHalf-size = size-by-test (value_of minusHalf) (pw 0 1) tt
+minus_half-size : Size (value_of minus_half) (pw 0 1)
+unfolding negate of_bits of_fields odd count_trailing_zeros size size_test
+minus_half-size = size-by-test (value_of minus_half) (pw 0 1) tt
 
-minusHalf-finite : T (finite minusHalf)
+minus_half-finite : T (finite minus_half)
 unfolding negate of_bits of_fields odd count_trailing_zeros size
-minusHalf-finite = tt
+minus_half-finite = tt
 
 double : (X : Fraction) → X ⊕ X ≈ X ⊗ whole 2
 unfolding same
@@ -89,7 +89,7 @@ two-grid : Multiple (whole 2) (pw 1 0)
 two-grid = record { p = 1; m = 0; is = record { eq = refl } }
 
 two_size : Size (whole 2) (pw 1 0)
-unfolding sizeTest
+unfolding size_test
 two_size = size-by-test (whole 2) (pw 1 0) tt
 
 -- k (-1/2) + X, where p is 2 X
@@ -102,28 +102,28 @@ unfolding same
 less-half X k = ring (free X ∷ free k ∷ []) (var 1 :* con (neg (frac 1 2)) :+ var 0) (var 0 :- var 1 :* con (frac 1 2)) tt
 
 half-size : Size (frac 1 2) (pw 0 1)
-unfolding sizeTest
+unfolding size_test
 half-size = size-by-test (frac 1 2) (pw 0 1) tt
 
-pub quarter : (x : Float) → T (finite x) → T (fits binary64 x) → Size (value_of x) (pw 23 0) → QuarterReduced x (reduceQuarter x).0 (reduceQuarter x).1
-unfolding reduceQuarter leq
+pub quarter : (x : Float) → T (finite x) → T (fits binary64 x) → Size (value_of x) (pw 23 0) → QuarterReduced x (reduce_quarter x).0 (reduce_quarter x).1
+unfolding reduce_quarter leq
 quarter x p h z =
     let X = value_of x in
-    let C = value_of minusHalf in
+    let C = value_of minus_half in
     let G = grid-of binary64 x p h (size-⊑ (pw-le 23 0 53 0 (omega arith)) z) in
     let q = G.place in
     let d = add binary64 x x in
     let D : Same d (X ⊕ X) = scaled_exact d (X ⊕ X) X (whole 2) 1 q G.under (lit≤ tt) (double X) two-grid two_size G.grid G.size (add-rounded binary64 x x p p) in
     let K = away binary64 d D.fin (add-fits binary64 x x) in
-    let k = nearestWhole d in
+    let k = nearest_whole d in
     let SD : Size (value_of d) (pw 23 0 ⊗ pw 1 0) = size-≈ (≈-sym D.is) (size-≈ (≈-sym (double X)) (size-⊗ z two_size)) in
     let SK : Size (value_of k) (pw 23 0 ⊗ pw 1 0 ⊕ frac 1 2) = size-near K.near SD in
     let S : Size (value_of k) (whole (2 ^ 57 - 1)) = size-⊑ (by-test {a = pw 23 0 ⊗ pw 1 0 ⊕ frac 1 2} {b = whole (2 ^ 57 - 1)} tt) SK in
     let A : integer (count k) ≈ value_of k = cast-exact 63 (2 ^ 57 - 1) k K.fin K.integral S (lit< tt) in
-    let m = mul binary64 k minusHalf in
-    let MG : Multiple (value_of k ⊗ C) (pw 0 1) = multiple-unit (≈-trans (pw-mul 0 0 0 1) (pw-same 0 (0 + 1) 0 1 refl)) (multiple-⊗ (multiple-unit one-pw K.integral) minusHalf-grid) in
-    let M : Same m (value_of k ⊗ C) = exact-at binary64 m (value_of k ⊗ C) 0 1 1073 refl (mul-rounded binary64 k minusHalf K.fin minusHalf-finite) MG (size-⊑ (by-test {a = (pw 23 0 ⊗ pw 1 0 ⊕ frac 1 2) ⊗ pw 0 1} {b = pw 53 1} tt) (size-⊗ SK minusHalf-size)) (lit< tt) in
-    let Y : value_of m ⊕ X ≈ (value_of d ⊖ value_of k) ⊗ frac 1 2 = ≈-trans (⊕-cong (≈-trans M.is (⊗-cong (≈-refl (value_of k)) minusHalf-is)) (≈-refl X)) (≈-trans (halved X (value_of k)) (⊗-cong (⊕-cong (≈-sym D.is) (≈-refl (neg (value_of k)))) (≈-refl (frac 1 2)))) in
+    let m = mul binary64 k minus_half in
+    let MG : Multiple (value_of k ⊗ C) (pw 0 1) = multiple-unit (≈-trans (pw-mul 0 0 0 1) (pw-same 0 (0 + 1) 0 1 refl)) (multiple-⊗ (multiple-unit one-pw K.integral) minus_half-grid) in
+    let M : Same m (value_of k ⊗ C) = exact-at binary64 m (value_of k ⊗ C) 0 1 1073 refl (mul-rounded binary64 k minus_half K.fin minus_half-finite) MG (size-⊑ (by-test {a = (pw 23 0 ⊗ pw 1 0 ⊕ frac 1 2) ⊗ pw 0 1} {b = pw 53 1} tt) (size-⊗ SK minus_half-size)) (lit< tt) in
+    let Y : value_of m ⊕ X ≈ (value_of d ⊖ value_of k) ⊗ frac 1 2 = ≈-trans (⊕-cong (≈-trans M.is (⊗-cong (≈-refl (value_of k)) minus_half-is)) (≈-refl X)) (≈-trans (halved X (value_of k)) (⊗-cong (⊕-cong (≈-sym D.is) (≈-refl (neg (value_of k)))) (≈-refl (frac 1 2)))) in
     let small : Size (value_of m ⊕ X) (frac 1 2 ⊗ pw 0 1) = size-≈ (≈-sym Y) (size-⊗ (away-small K) half-size) in
     let R = add-rounded binary64 m x M.fin p in
     let MM : Multiple (value_of m) (pw 0 1) = multiple-≈ (≈-sym M.is) MG in
@@ -135,7 +135,7 @@ quarter x p h z =
     record {
       fin = y.fin;
       small = size-≈ (≈-sym y.is) (size-⊑ (by-test {a = frac 1 2 ⊗ pw 0 1} {b = frac 1 4} tt) small);
-      exact = ≈-trans y.is (≈-trans (⊕-cong (≈-trans M.is (⊗-cong (≈-refl (value_of k)) minusHalf-is)) (≈-refl X)) (≈-trans (less-half X (value_of k)) (⊕-cong (≈-refl X) (neg-cong (⊗-cong (≈-sym A) (≈-refl (frac 1 2)))))));
+      exact = ≈-trans y.is (≈-trans (⊕-cong (≈-trans M.is (⊗-cong (≈-refl (value_of k)) minus_half-is)) (≈-refl X)) (≈-trans (less-half X (value_of k)) (⊕-cong (≈-refl X) (neg_cong (⊗-cong (≈-sym A) (≈-refl (frac 1 2)))))));
     }
   where
     back : (q : ℕ) → (pw (q + 53) 1074 ⊗ pw 1 0) ⊗ pw 0 1 ≈ pw (q + 53) 1074
@@ -145,18 +145,18 @@ quarter x p h z =
     pw-quarter = ⊑_trans (by-test {a = frac 1 2 ⊗ pw 0 1} {b = pw 0 0} tt) (pw-le 0 0 (1073 + 53) 1074 (omega arith))
 
 -- ---- the code's steps together
-pub pi-joined : (x kd y : Float) (k : ℤ) → kd ≡ float_round binary64 (mul binary64 x thirtytwo) → y ≡ add binary64 (mul binary64 x thirtytwo) (negate kd) → k ≡ to_signed 63 kd → mag k < 2 ^ 63 → ◌≡◌ {A = Float × ℤ} (y, to_z w64 (of_z w64 k)) (reducePi x)
-unfolding reducePi
+pub pi-joined : (x kd y : Float) (k : ℤ) → kd ≡ float_round binary64 (mul binary64 x thirtytwo) → y ≡ add binary64 (mul binary64 x thirtytwo) (negate kd) → k ≡ to_signed 63 kd → mag k < 2 ^ 63 → ◌≡◌ {A = Float × ℤ} (y, to_z w64 (of_z w64 k)) (reduce_pi x)
+unfolding reduce_pi
 pi-joined x kd y k D Y K h = pair (Y ∙ ap (λ v. fmla x thirtytwo (negate v)) D) (to_z-of_z {w = w64} {z = k} (record { sfits = h }) ∙ K ∙ ap count D)
 
-pub quarter-joined : (x kd y : Float) (k : ℤ) → kd ≡ float_round binary64 (add binary64 x x) → y ≡ add binary64 (mul binary64 kd minusHalf) x → k ≡ to_signed 63 kd → mag k < 2 ^ 63 → ◌≡◌ {A = Float × ℤ} (y, to_z w64 (of_z w64 k)) (reduceQuarter x)
-unfolding reduceQuarter
-quarter-joined x kd y k D Y K h = pair (Y ∙ ap (λ v. fmla v minusHalf x) D) (to_z-of_z {w = w64} {z = k} (record { sfits = h }) ∙ K ∙ ap count D)
+pub quarter-joined : (x kd y : Float) (k : ℤ) → kd ≡ float_round binary64 (add binary64 x x) → y ≡ add binary64 (mul binary64 kd minus_half) x → k ≡ to_signed 63 kd → mag k < 2 ^ 63 → ◌≡◌ {A = Float × ℤ} (y, to_z w64 (of_z w64 k)) (reduce_quarter x)
+unfolding reduce_quarter
+quarter-joined x kd y k D Y K h = pair (Y ∙ ap (λ v. fmla v minus_half x) D) (to_z-of_z {w = w64} {z = k} (record { sfits = h }) ∙ K ∙ ap count D)
 
-pub pi-at : (x y : Float) (k : ℤ) → ◌≡◌ {A = Float × ℤ} (y, k) (reducePi x) → T (fits binary64 x) → T (finite x) → Smaller (value_of x) (whole 16777216) → PiReduced x y k
+pub pi-at : (x y : Float) (k : ℤ) → ◌≡◌ {A = Float × ℤ} (y, k) (reduce_pi x) → T (fits binary64 x) → T (finite x) → Smaller (value_of x) (whole 16777216) → PiReduced x y k
 unfolding leq
 pi-at x y k e f p s = subst (λ (v : Float × ℤ). PiReduced x v.0 v.1) (sym e) (pi x p f (size-⊑ (by-test {a = whole 16777216} {b = pw 24 0} tt) (smaller-size (value_of x) (whole 16777216) s)))
 
-pub quarter-at : (x y : Float) (k : ℤ) → ◌≡◌ {A = Float × ℤ} (y, k) (reduceQuarter x) → T (fits binary64 x) → T (finite x) → Smaller (value_of x) (whole 8388608) → QuarterReduced x y k
+pub quarter-at : (x y : Float) (k : ℤ) → ◌≡◌ {A = Float × ℤ} (y, k) (reduce_quarter x) → T (fits binary64 x) → T (finite x) → Smaller (value_of x) (whole 8388608) → QuarterReduced x y k
 unfolding leq
 quarter-at x y k e f p s = subst (λ (v : Float × ℤ). QuarterReduced x v.0 v.1) (sym e) (quarter x p f (size-⊑ (by-test {a = whole 8388608} {b = pw 23 0} tt) (smaller-size (value_of x) (whole 8388608) s)))

@@ -5,7 +5,7 @@ use lib.Ieee.Scale.{finite}
 use Rattle.exact.specs.Fraction.{Fraction, ◌≈◌, ◌⊕◌, ◌⊗◌, ◌⊖◌, whole, Size, Within, leq, tiny, frac}
 use Rattle.exact.specs.Value.{value_of, integer, Good}
 use Rattle.exact.specs.Multiple.{pw, Multiple, OddMultiple, Apart}
-use Rattle.exact.specs.Rounded.{errorOf, in_range}
+use Rattle.exact.specs.Rounded.{error_of, in_range}
 use Rattle.exact.proofs.Order.{⊑_trans, ≈→⊑, ≈-sym, ≈-trans, by-test, size-⊕, size-⊗, size-near, size-⊑, within-⊑, within-refl, size-≈}
 use Rattle.exact.proofs.Rounding.{add-rounded, mul-rounded, rounded-near}
 use Rattle.exact.proofs.Powers.{Same}
@@ -44,7 +44,7 @@ product-exact x c z l b w p h =
     (size-⊑ (pw-le (z + 52) (149 + l) (z + 53) (149 + l) (omega arith)) (product-size x c z l b w p)) (omega arith)
 
 -- ---- a sum up to B in size, with the error e for that size
-pub summed : (a b : Float) (B e : Fraction) → T (finite a) → T (finite b) → Size (value_of a ⊕ value_of b) B → T (in_range binary64 B) → T (leq (errorOf binary64 B) e) → Good (add binary64 a b) (value_of a ⊕ value_of b) e
+pub summed : (a b : Float) (B e : Fraction) → T (finite a) → T (finite b) → Size (value_of a ⊕ value_of b) B → T (in_range binary64 B) → T (leq (error_of binary64 B) e) → Good (add binary64 a b) (value_of a ⊕ value_of b) e
 summed a b B e p q s t u = let g = rounded-near binary64 (add binary64 a b) (value_of a ⊕ value_of b) B (add-rounded binary64 a b p q) s t in record { fin = g.fin; near = within-⊑ (by-test u) g.near }
 
 -- ---- the second whole part: the sum of x c1 and the first fraction is exact from some exponent on
@@ -105,9 +105,9 @@ KL bx b1 e = ((bx ⊗ b1 ⊕ frac 1 2) ⊕ e) ⊕ frac 1 2
 -- the tests
 pub record Tests (b0 b1 b2 b3 bx e t : Fraction) : Type 0 where
   pub r1 : T (in_range binary64 (B1 bx b2))
-  pub e1 : T (leq (errorOf binary64 (B1 bx b2)) e)
+  pub e1 : T (leq (error_of binary64 (B1 bx b2)) e)
   pub r2 : T (in_range binary64 (B2 bx b2 b3 e))
-  pub e2 : T (leq (errorOf binary64 (B2 bx b2 b3 e)) e)
+  pub e2 : T (leq (error_of binary64 (B2 bx b2 b3 e)) e)
   pub last : T (leq (B2 bx b2 b3 e ⊕ e) (frac 11 16))
   pub hi : T (leq (KH bx b0) (whole (2 ^ 57 - 1)))
   pub lo : T (leq (KL bx b1 e) (whole (2 ^ 57 - 1)))

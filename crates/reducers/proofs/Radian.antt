@@ -7,10 +7,10 @@ use lib.Ieee.Exact.{HasValue, odd_sign}
 use lib.Ieee.Fits.{mul-fits, and_l, and_r}
 use lib.Ieee.Scale.{finite}
 use lib.Ieee.Bits.{of_bits-fits}
-use Rattle.exact.specs.Fraction.{Fraction, ◌≈◌, ◌⊕◌, ◌⊗◌, ◌⊖◌, whole, Size, Within, leq, tiny, frac, sizeTest}
+use Rattle.exact.specs.Fraction.{Fraction, ◌≈◌, ◌⊕◌, ◌⊗◌, ◌⊖◌, whole, Size, Within, leq, tiny, frac, size_test}
 use Rattle.exact.specs.Value.{value_of, integer, signed}
 use Rattle.exact.specs.Multiple.{pw, Multiple, OddMultiple, Apart, Smaller}
-use Rattle.exact.specs.Rounded.{errorOf, in_range}
+use Rattle.exact.specs.Rounded.{error_of, in_range}
 use Rattle.exact.proofs.Order.{⊑_trans, ≈→⊑, size-neg, ⊗-cong, by-test, ≈-refl, ≈-sym, ≈-trans, ⊕-cong, size-⊑, size-⊕, size-⊗, size-near, within-⊑, within-≈, size-≈, size-by-test}
 use Rattle.exact.proofs.Poly.{var, ◌:+◌, ◌:-◌, same, free}
 use Rattle.exact.proofs.Cert.{ring}
@@ -19,8 +19,8 @@ use Rattle.exact.proofs.Multiple.{multiple-≈, multiple-⊖, multiple-⊗, mult
 use Rattle.exact.proofs.Away.{away, away-small, cast-exact, int-add, int-size, pow_le_back}
 use Rattle.exact.proofs.Keep.{apart-≈, apart-⊑, signed-grid}
 use Rattle.exact.proofs.Odd.{odd-≈, odd-multiple, odd-apart, odd-clash, Lowest, lowest as lowest-bit}
-use Rattle.reducers.specs.Reduce.{part, fmla, nearestWhole, count, wrapped, reduceSmall, reduceFrom, skips, leading, reduceLarge, exponentOf, reduce}
-use Rattle.reducers.specs.Exact.{stepsPerRadian, radianSteps, field, Reduced}
+use Rattle.reducers.specs.Reduce.{part, fmla, nearest_whole, count, wrapped, reduce_small, reduce_from, skips, leading, reduce_large, exponent_of, reduce}
+use Rattle.reducers.specs.Exact.{steps_per_radian, radian_steps, field, Reduced}
 use Rattle.reducers.proofs.Chain.{chain-small, tailed}
 use Rattle.reducers.proofs.Large.{Word, Piece, Found, B1, B2, KH, product-exact, summed}
 use Rattle.reducers.proofs.Pieces.{bits, piece0, piece1, piece2, tail-small, odd2}
@@ -39,9 +39,9 @@ pub record FoundSmall (X r : Fraction) (l1 l2 : ℕ) (k y : Float) : Type 0 wher
 
 pub record SmallTests (b0 b1 b2 bx e t : Fraction) : Type 0 where
   pub r1 : T (in_range binary64 (B1 bx b1))
-  pub e1 : T (leq (errorOf binary64 (B1 bx b1)) e)
+  pub e1 : T (leq (error_of binary64 (B1 bx b1)) e)
   pub r2 : T (in_range binary64 (B2 bx b1 b2 e))
-  pub e2 : T (leq (errorOf binary64 (B2 bx b1 b2 e)) e)
+  pub e2 : T (leq (error_of binary64 (B2 bx b1 b2 e)) e)
   pub last : T (leq (B2 bx b1 b2 e ⊕ e) (frac 11 16))
   pub hi : T (leq (KH bx b0) (whole (2 ^ 57 - 1)))
   pub all : T (leq ((e ⊕ e) ⊕ t ⊗ bx) (tiny 52))
@@ -50,10 +50,10 @@ nothing : (X : Fraction) → X ⊗ whole 0 ≈ integer (pos 0) ⊗ whole 64
 nothing X = record { eq = omega arith }
 
 module _ (x c0 c1 c2 : Float) (z l0 l1 l2 : ℕ) (b0 b1 b2 bx e t r : Fraction) (w : Word x z) (p0 : Piece c0 l0 b0) (p1 : Piece c1 l1 b1) (p2 : Piece c2 l2 b2) (Z : z ≤ 253) (bound : Size (value_of x) bx) (test : SmallTests b0 b1 b2 bx e t) (tail : Within (whole 0 ⊕ (value_of c0 ⊕ value_of c1 ⊕ value_of c2)) r t) (o2 : OddMultiple (value_of c2) (pw 0 l2)) (L01 : l0 ≤ l1) (L12 : l1 < l2) where
-  small : FoundSmall (value_of x) r l1 l2 (nearestWhole (mul binary64 x c0)) (fmla x c2 (fmla x c1 (sub binary64 (mul binary64 x c0) (nearestWhole (mul binary64 x c0)))))
+  small : FoundSmall (value_of x) r l1 l2 (nearest_whole (mul binary64 x c0)) (fmla x c2 (fmla x c1 (sub binary64 (mul binary64 x c0) (nearest_whole (mul binary64 x c0)))))
   small =
       let p = mul binary64 x c0 in
-      let k = nearestWhole p in
+      let k = nearest_whole p in
       let y0 = sub binary64 p k in
       let q1 = mul binary64 x c1 in
       let y1 = add binary64 q1 y0 in
@@ -91,8 +91,8 @@ tests-small : SmallTests (bits 170891319 24) (bits 227401559 55) (bits 20940011 
 unfolding lib.Ieee.size leq
 tests-small = record { r1 = tt; e1 = tt; r2 = tt; e2 = tt; last = tt; hi = tt; all = tt }
 
-region-small : (x : Float) (z : ℕ) → Word x z → z ≤ 147 → FoundSmall (value_of x) stepsPerRadian 55 81 (nearestWhole (mul binary64 x (part 0))) (fmla x (part 2) (fmla x (part 1) (sub binary64 (mul binary64 x (part 0)) (nearestWhole (mul binary64 x (part 0))))))
-region-small x z w h = small x (part 0) (part 1) (part 2) z 24 55 81 (bits 170891319 24) (bits 227401559 55) (bits 20940011 81) (pw 171 149) (tiny 54) (tiny 86) stepsPerRadian w piece0 piece1 piece2 (omega arith) (within-range x z 147 w h) tests-small tail-small odd2 (lit≤ tt) (lit≤ tt)
+region_small : (x : Float) (z : ℕ) → Word x z → z ≤ 147 → FoundSmall (value_of x) steps_per_radian 55 81 (nearest_whole (mul binary64 x (part 0))) (fmla x (part 2) (fmla x (part 1) (sub binary64 (mul binary64 x (part 0)) (nearest_whole (mul binary64 x (part 0))))))
+region_small x z w h = small x (part 0) (part 1) (part 2) z 24 55 81 (bits 170891319 24) (bits 227401559 55) (bits 20940011 81) (pw 171 149) (tiny 54) (tiny 86) steps_per_radian w piece0 piece1 piece2 (omega arith) (within-range x z 147 w h) tests-small tail-small odd2 (lit≤ tt) (lit≤ tt)
 
 -- ---- from floats to whole numbers
 -- the patterns add up
@@ -148,8 +148,8 @@ place-ge X v z o m = by-range v z (λ l. l) (λ l. absurd (odd-clash v 149 o (mu
     t : whole 2 ⊗ pw v 149 ≈ pw (1 + v) 149
     t = ≈-trans (⊗-cong two-pw (≈-refl (pw v 149))) (pw-mul 1 0 v 149)
 
-not-zero : (y : Fraction) (a b : ℕ) → Apart y (pw a b) → y ≈ whole 0 → ⊥
-not-zero y a b h e = go (apart-≈ e h)
+not_zero : (y : Fraction) (a b : ℕ) → Apart y (pw a b) → y ≈ whole 0 → ⊥
+not_zero y a b h e = go (apart-≈ e h)
   where
     P : 0 < 2 ^ a
     P = pow_pos a
@@ -176,24 +176,24 @@ finish x y z l2 l3 W f h far nz = go (lowest-bit binary32 x W.fin f)
         let U : v ≤ z + 24 = place-le (value_of x) v (z + 24) 149 (odd-apart v 149 o) W.size in
         let D : z ≤ v = place-ge (value_of x) v z o W.grid in
         let A = far v o (omega arith) in
-        (not-zero (value_of y) v (149 + l3) A, λ b. apart-⊑ (⊑_trans (≈→⊑ tiny-pw) (pw-le 0 115 v (149 + l3) (omega arith))) A)
+        (not_zero (value_of y) v (149 + l3) A, λ b. apart-⊑ (⊑_trans (≈→⊑ tiny-pw) (pw-le 0 115 v (149 + l3) (omega arith))) A)
       where
         tiny-pw : tiny 115 ≈ pw 0 115
         tiny-pw = record { eq = refl }
 
 -- for |x| up to 2 ^ -11 k is small
-pub per-radian : Size stepsPerRadian (whole 11)
-unfolding sizeTest
-per-radian = size-by-test stepsPerRadian (whole 11) tt
+pub per_radian : Size steps_per_radian (whole 11)
+unfolding size_test
+per_radian = size-by-test steps_per_radian (whole 11) tt
 
 take : (k y m : Fraction) → ((k ⊕ y) ⊕ m) ⊖ (y ⊕ m) ≈ k
 unfolding same
 take k y m = ring (free k ∷ free y ∷ free m ∷ []) (((var 0 :+ var 1) :+ var 2) :- (var 1 :+ var 2)) (var 0) tt
 
-tiny-k : (w z : ℕ) (k y : Float) → Word (of_bits binary32 w) z → z ≤ 114 → FoundSmall (value_of (of_bits binary32 w)) stepsPerRadian 55 81 k y → Size (value_of k) (whole 1)
-unfolding leq sizeTest
+tiny-k : (w z : ℕ) (k y : Float) → Word (of_bits binary32 w) z → z ≤ 114 → FoundSmall (value_of (of_bits binary32 w)) steps_per_radian 55 81 k y → Size (value_of k) (whole 1)
+unfolding leq size_test
 tiny-k w z k y W h F =
-    let s = size-near F.near (size-⊗ (within-range (of_bits binary32 w) z 114 W h) per-radian) in
+    let s = size-near F.near (size-⊗ (within-range (of_bits binary32 w) z 114 W h) per_radian) in
     let m = integer (pos 0) ⊗ whole 64 in
     let n : Size m (whole 0) = size-by-test m (whole 0) tt in
     size-⊑ (by-test {a = ((pw 138 149 ⊗ whole 11) ⊕ tiny 52) ⊕ (frac 11 16 ⊕ whole 0)} {b = whole 1} tt) (size-≈ (take (value_of k) (value_of y) m) (size-⊕ s (size-neg (size-⊕ F.small n))))
@@ -201,7 +201,7 @@ tiny-k w z k y W h F =
 too_few : (n : ℕ) → n % 32 ≡ 16 → n ≤ 1 → ⊥
 too_few n e h = omega arith
 
-pub found-large : (w z l2 l3 : ℕ) (kh kl y : Float) → Word (of_bits binary32 w) z → (value_of (of_bits binary32 w) ≈ whole 0 → ⊥) → z + 24 ≤ 149 + l2 → 149 + l3 ≤ z + 115 → Found (value_of (of_bits binary32 w)) stepsPerRadian l2 l3 kh kl y → Reduced w y (wrapped (count kh) (count kl))
+pub found-large : (w z l2 l3 : ℕ) (kh kl y : Float) → Word (of_bits binary32 w) z → (value_of (of_bits binary32 w) ≈ whole 0 → ⊥) → z + 24 ≤ 149 + l2 → 149 + l3 ≤ z + 115 → Found (value_of (of_bits binary32 w)) steps_per_radian l2 l3 kh kl y → Reduced w y (wrapped (count kh) (count kl))
 found-large w z l2 l3 kh kl y W NZ V2 V3 F =
     let far = finish (of_bits binary32 w) y z l2 l3 W (of_bits-fits binary32 w) V2 F.far NZ in
     let a = count kh in
@@ -218,12 +218,12 @@ found-large w z l2 l3 kh kl y W NZ V2 V3 F =
       small = strictly (value_of y) F.small;
       few = lt_of_le_of_lt ns (lit< tt);
       turns = F.turns;
-      near = within-≈ (⊕-cong (⊕-cong (≈-sym S) (≈-refl (value_of y))) (≈-refl (integer F.turns ⊗ whole 64))) (≈-refl (radianSteps (of_bits binary32 w))) F.near;
+      near = within-≈ (⊕-cong (⊕-cong (≈-sym S) (≈-refl (value_of y))) (≈-refl (integer F.turns ⊗ whole 64))) (≈-refl (radian_steps (of_bits binary32 w))) F.near;
       nonzero = λ n. far.0;
       apart = λ q. far.1 V3;
     })
 
-pub found-small : (w z : ℕ) (k y : Float) → Word (of_bits binary32 w) z → z ≤ 147 → (115 ≤ z → value_of (of_bits binary32 w) ≈ whole 0 → ⊥) → FoundSmall (value_of (of_bits binary32 w)) stepsPerRadian 55 81 k y → Reduced w y (count k)
+pub found-small : (w z : ℕ) (k y : Float) → Word (of_bits binary32 w) z → z ≤ 147 → (115 ≤ z → value_of (of_bits binary32 w) ≈ whole 0 → ⊥) → FoundSmall (value_of (of_bits binary32 w)) steps_per_radian 55 81 k y → Reduced w y (count k)
 found-small w z k y W V NZ F =
     let far = finish (of_bits binary32 w) y z 55 81 W (of_bits-fits binary32 w) (omega arith) F.far in
     let a = count k in
@@ -234,7 +234,7 @@ found-small w z k y W V NZ F =
       small = strictly (value_of y) F.small;
       few = lt_of_le_of_lt na (lit< tt);
       turns = pos 0;
-      near = within-≈ (⊕-cong (⊕-cong (≈-sym A) (≈-refl (value_of y))) (≈-refl (integer (pos 0) ⊗ whole 64))) (≈-refl (radianSteps (of_bits binary32 w))) F.near;
+      near = within-≈ (⊕-cong (⊕-cong (≈-sym A) (≈-refl (value_of y))) (≈-refl (integer (pos 0) ⊗ whole 64))) (≈-refl (radian_steps (of_bits binary32 w))) F.near;
       nonzero = λ n. (far n).0;
       apart = λ q. by-range 114 z (λ l. absurd (too_few (nat_abs a) q (int-size a 1 (size-≈ (≈-sym A) (tiny-k w z k y W l F))))) (λ l. (far (NZ l)).1 (omega arith));
     }
@@ -300,16 +300,16 @@ below_at (suc n) P t k h = elim (eq-or-lt_of_le (le_of_suc-le-suc h)) [ inl e �
 unfoldable pub which : ℕ → ℕ
 which x = cond (leb x 179) 0 (cond (leb x 210) 1 (cond (leb x 236) 2 3))
 
-skipTest : ℕ → Bool
+skip_test : ℕ → Bool
 unfolding which
-skipTest x = eqb (skips leading (pos x -ℤ pos 127)) (which x)
+skip_test x = eqb (skips leading (pos x -ℤ pos 127)) (which x)
 
 pub skips-is : (x : ℕ) → x < 255 → skips leading (pos x -ℤ pos 127) ≡ which x
-unfolding skipTest all_below
-skips-is x h = eqb→eq (skips leading (pos x -ℤ pos 127)) (which x) (below_at 255 skipTest tt x h)
+unfolding skip_test all_below
+skips-is x h = eqb→eq (skips leading (pos x -ℤ pos 127)) (which x) (below_at 255 skip_test tt x h)
 
-from-range : (w x : ℕ) → field w ≡ x → x < 255 → 149 ≤ x → Reduced w (reduceFrom (which x) (of_bits binary32 w)).0 (reduceFrom (which x) (of_bits binary32 w)).1
-unfolding which reduceFrom
+from-range : (w x : ℕ) → field w ≡ x → x < 255 → 149 ≤ x → Reduced w (reduce_from (which x) (of_bits binary32 w)).0 (reduce_from (which x) (of_bits binary32 w)).1
+unfolding which reduce_from
 from-range w x e h g = go (leb x 179) (leb→le x 179) (nleb→lt x 179)
   where
     W : Word (of_bits binary32 w) (x - 1)
@@ -318,21 +318,21 @@ from-range w x e h g = go (leb x 179) (leb→le x 179) (nleb→lt x 179)
     NZ : value_of (of_bits binary32 w) ≈ whole 0 → ⊥
     NZ = word-nonzero w (subst (λ y. 0 < y) (sym e) (omega arith)) (subst (λ y. y < 255) (sym e) h)
 
-    go3 : (t : Bool) → (T t → x ≤ 236) → (T (not t) → 236 < x) → 210 < x → Reduced w (reduceFrom (cond t 2 3) (of_bits binary32 w)).0 (reduceFrom (cond t 2 3) (of_bits binary32 w)).1
+    go3 : (t : Bool) → (T t → x ≤ 236) → (T (not t) → 236 < x) → 210 < x → Reduced w (reduce_from (cond t 2 3) (of_bits binary32 w)).0 (reduce_from (cond t 2 3) (of_bits binary32 w)).1
     go3 true a b l = let k = a tt in found-large w (x - 1) 143 170 _ _ _ W NZ (omega arith) (omega arith) (region2 (of_bits binary32 w) (x - 1) W (omega arith) (omega arith))
     go3 false a b l = let k = b tt in found-large w (x - 1) 170 200 _ _ _ W NZ (omega arith) (omega arith) (region3 (of_bits binary32 w) (x - 1) W (omega arith) (omega arith))
 
-    go2 : (t : Bool) → (T t → x ≤ 210) → (T (not t) → 210 < x) → 179 < x → Reduced w (reduceFrom (cond t 1 (cond (leb x 236) 2 3)) (of_bits binary32 w)).0 (reduceFrom (cond t 1 (cond (leb x 236) 2 3)) (of_bits binary32 w)).1
+    go2 : (t : Bool) → (T t → x ≤ 210) → (T (not t) → 210 < x) → 179 < x → Reduced w (reduce_from (cond t 1 (cond (leb x 236) 2 3)) (of_bits binary32 w)).0 (reduce_from (cond t 1 (cond (leb x 236) 2 3)) (of_bits binary32 w)).1
     go2 true a b l = let k = a tt in found-large w (x - 1) 114 143 _ _ _ W NZ (omega arith) (omega arith) (region1 (of_bits binary32 w) (x - 1) W (omega arith) (omega arith))
     go2 false a b l = go3 (leb x 236) (leb→le x 236) (nleb→lt x 236) (b tt)
 
-    go : (t : Bool) → (T t → x ≤ 179) → (T (not t) → 179 < x) → Reduced w (reduceFrom (cond t 0 (cond (leb x 210) 1 (cond (leb x 236) 2 3))) (of_bits binary32 w)).0 (reduceFrom (cond t 0 (cond (leb x 210) 1 (cond (leb x 236) 2 3))) (of_bits binary32 w)).1
+    go : (t : Bool) → (T t → x ≤ 179) → (T (not t) → 179 < x) → Reduced w (reduce_from (cond t 0 (cond (leb x 210) 1 (cond (leb x 236) 2 3))) (of_bits binary32 w)).0 (reduce_from (cond t 0 (cond (leb x 210) 1 (cond (leb x 236) 2 3))) (of_bits binary32 w)).1
     go true a b = let k = a tt in found-large w (x - 1) 81 114 _ _ _ W NZ (omega arith) (omega arith) (region0 (of_bits binary32 w) (x - 1) W (omega arith))
     go false a b = go2 (leb x 210) (leb→le x 210) (nleb→lt x 210) (b tt)
 
 -- every finite word
 pub radian : (w : ℕ) → field w ≢ 255 → Reduced w (reduce (of_bits binary32 w) (w % 2147483648)).0 (reduce (of_bits binary32 w) (w % 2147483648)).1
-unfolding reduceSmall
+unfolding reduce_small
 radian w ne = go (ltb (w % 2147483648) 1249902592) (ltb→lt (w % 2147483648) 1249902592) (nltb→le (w % 2147483648) 1249902592)
   where
     H : field w < 255
@@ -347,13 +347,13 @@ radian w ne = go (ltb (w % 2147483648) 1249902592) (ltb→lt (w % 2147483648) 12
     b : ℕ
     b = w % 2147483648
 
-    skip : skips leading (exponentOf (w % 2147483648)) ≡ which (field w)
+    skip : skips leading (exponent_of (w % 2147483648)) ≡ which (field w)
     skip = ap (λ y. skips leading (pos y -ℤ pos 127)) same ∙ skips-is (field w) H
 
     go : (t : Bool) → (T t → w % 2147483648 < 1249902592) → (T (not t) → 1249902592 ≤ w % 2147483648)
-        → Reduced w (cond t (reduceSmall (of_bits binary32 w)) (reduceLarge (of_bits binary32 w) (exponentOf (w % 2147483648)))).0 (cond t (reduceSmall (of_bits binary32 w)) (reduceLarge (of_bits binary32 w) (exponentOf (w % 2147483648)))).1
-    go true f g = let k = f tt in found-small w (field w - 1) _ _ (word_of w H) (omega arith) (λ l. word-nonzero w (omega arith) H) (region-small (of_bits binary32 w) (field w - 1) (word_of w H) (omega arith))
-    go false f g = let k = g tt in subst (λ i. Reduced w (reduceFrom i (of_bits binary32 w)).0 (reduceFrom i (of_bits binary32 w)).1) (sym skip) (from-range w (field w) refl H (omega arith))
+        → Reduced w (cond t (reduce_small (of_bits binary32 w)) (reduce_large (of_bits binary32 w) (exponent_of (w % 2147483648)))).0 (cond t (reduce_small (of_bits binary32 w)) (reduce_large (of_bits binary32 w) (exponent_of (w % 2147483648)))).1
+    go true f g = let k = f tt in found-small w (field w - 1) _ _ (word_of w H) (omega arith) (λ l. word-nonzero w (omega arith) H) (region_small (of_bits binary32 w) (field w - 1) (word_of w H) (omega arith))
+    go false f g = let k = g tt in subst (λ i. Reduced w (reduce_from i (of_bits binary32 w)).0 (reduce_from i (of_bits binary32 w)).1) (sym skip) (from-range w (field w) refl H (omega arith))
 
 pub radian-at : (x : Float) (b : ℕ) (r : Float × ℤ) → r ≡ reduce x b → (w : ℕ) → x ≡ of_bits binary32 w → b ≡ w % 2147483648 → (field w ≡ 255 → ⊥) → Reduced w r.0 r.1
 radian-at x b r e w X B ne = subst (λ (v : Float × ℤ). Reduced w v.0 v.1) (sym (e ∙ ap (λ v. reduce v b) X ∙ ap (λ v. reduce (of_bits binary32 w) v) B)) (radian w ne)

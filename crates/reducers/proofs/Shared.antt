@@ -7,7 +7,7 @@ use mir.Facts.{to_z_pos, sfits_widen}
 use borrow.Author.Differences.{ints}
 use lib.Ieee.{Float, nan_bits, binary64, add, sub, mul, to_signed}
 use Rattle.std.specs.Float.{float_round}
-use Rattle.reducers.specs.Reduce.{patterns, lowest, leading, wholeTurns, skips, part, nearestWhole, fmla, count, wrapped, reduceSmall, reduceFrom}
+use Rattle.reducers.specs.Reduce.{patterns, lowest, leading, whole_turns, skips, part, nearest_whole, fmla, count, wrapped, reduce_small, reduce_from}
 
 abbrev clean : List ℕ → Type 0
 clean [] = Unit {0}
@@ -63,7 +63,7 @@ low_small (suc (suc (suc (suc (suc (suc (suc (suc i)))))))) = lit< tt
 back : (z : ℤ) → SFits w64 z → to_z w64 (of_z w64 z) ≡ z
 back z f = to_z-of_z {w = w64} {z = z} f
 
-pub turns-test : (e : ℤ) (i : ℕ) → SFits w32 e → lt_z (pos 5) (to_z w64 (of_z w64 (to_z w64 (of_z w64 (to_z w64 (of_z w64 (to_z w32 (of_z w32 e))) -ℤ pos 23)) +ℤ to_z w64 (of_z w64 (get_or lowest i (pos 0)))))) ≡ wholeTurns e (get_or lowest i (pos 0))
+pub turns-test : (e : ℤ) (i : ℕ) → SFits w32 e → lt_z (pos 5) (to_z w64 (of_z w64 (to_z w64 (of_z w64 (to_z w64 (of_z w64 (to_z w32 (of_z w32 e))) -ℤ pos 23)) +ℤ to_z w64 (of_z w64 (get_or lowest i (pos 0)))))) ≡ whole_turns e (get_or lowest i (pos 0))
 turns-test e i f =
     let l = get_or lowest i (pos 0) in
     let s = low_small i in
@@ -83,14 +83,14 @@ turns-test e i f =
     plus : (e l : ℤ) → SFits w32 e → mag l < 1000 → SFits w64 (e -ℤ pos 23 +ℤ l)
     plus e l f s = omega (arith, ints)
 
-one_more : (i : ℕ) (e : ℤ) → i < 4 → wholeTurns e (get_or lowest i (pos 0)) ≡ true → skips (drop i leading) e ≡ suc (skips (drop (suc i) leading) e)
+one_more : (i : ℕ) (e : ℤ) → i < 4 → whole_turns e (get_or lowest i (pos 0)) ≡ true → skips (drop i leading) e ≡ suc (skips (drop (suc i) leading) e)
 one_more zero e h t = ap (λ b. cond b (suc (skips (drop 1 leading) e)) 0) t
 one_more (suc zero) e h t = ap (λ b. cond b (suc (skips (drop 2 leading) e)) 0) t
 one_more (suc (suc zero)) e h t = ap (λ b. cond b (suc (skips (drop 3 leading) e)) 0) t
 one_more (suc (suc (suc zero))) e h t = ap (λ b. cond b (suc (skips (drop 4 leading) e)) 0) t
 one_more (suc (suc (suc (suc i)))) e h t = absurd (omega arith)
 
-pub again : (i : ℕ) (e : ℤ) → i < 4 → skips leading e ≡ i + skips (drop i leading) e → wholeTurns e (get_or lowest i (pos 0)) ≡ true → skips leading e ≡ (i + 1) + skips (drop (i + 1) leading) e
+pub again : (i : ℕ) (e : ℤ) → i < 4 → skips leading e ≡ i + skips (drop i leading) e → whole_turns e (get_or lowest i (pos 0)) ≡ true → skips leading e ≡ (i + 1) + skips (drop (i + 1) leading) e
 again i e h k t = k ∙ ap (λ z. i + z) (one_more i e h t) ∙ move i (skips (drop (suc i) leading) e) ∙ ap (λ j. (i + 1) + skips (drop j leading) e) (sym (add-one i))
   where
     move : (i s : ℕ) → i + suc s ≡ (i + 1) + s
@@ -101,23 +101,23 @@ pub pair : {a b : Float} {k l : ℤ} → a ≡ b → k ≡ l → ◌≡◌ {A = 
 pair p q = λ i. (p i, q i)
 
 pub small-joined : (x p0 p1 p2 kd y1 y2 : Float) (k : ℤ) → p0 ≡ part 0 → kd ≡ float_round binary64 (mul binary64 x p0) → p1 ≡ part 1 → y1 ≡ add binary64 (mul binary64 x p1) (sub binary64 (mul binary64 x p0) kd) → p2 ≡ part 2
-    → y2 ≡ add binary64 (mul binary64 x p2) y1 → k ≡ to_signed 63 kd → mag k < 2 ^ 63 → ◌≡◌ {A = Float × ℤ} (y2, to_z w64 (of_z w64 k)) (reduceSmall x)
-unfolding reduceSmall
+    → y2 ≡ add binary64 (mul binary64 x p2) y1 → k ≡ to_signed 63 kd → mag k < 2 ^ 63 → ◌≡◌ {A = Float × ℤ} (y2, to_z w64 (of_z w64 k)) (reduce_small x)
+unfolding reduce_small
 small-joined x p0 p1 p2 kd y1 y2 k a b c d e f g h =
-    let D : kd ≡ nearestWhole (mul binary64 x (part 0)) = b ∙ ap (λ p. float_round binary64 (mul binary64 x p)) a in
-    let Y1 : y1 ≡ fmla x (part 1) (sub binary64 (mul binary64 x (part 0)) (nearestWhole (mul binary64 x (part 0)))) = d ∙ ap (λ p. fmla x p (sub binary64 (mul binary64 x p0) kd)) c ∙ ap (λ p. fmla x (part 1) (sub binary64 (mul binary64 x p) kd)) a ∙ ap (λ v. fmla x (part 1) (sub binary64 (mul binary64 x (part 0)) v)) D in
+    let D : kd ≡ nearest_whole (mul binary64 x (part 0)) = b ∙ ap (λ p. float_round binary64 (mul binary64 x p)) a in
+    let Y1 : y1 ≡ fmla x (part 1) (sub binary64 (mul binary64 x (part 0)) (nearest_whole (mul binary64 x (part 0)))) = d ∙ ap (λ p. fmla x p (sub binary64 (mul binary64 x p0) kd)) c ∙ ap (λ p. fmla x (part 1) (sub binary64 (mul binary64 x p) kd)) a ∙ ap (λ v. fmla x (part 1) (sub binary64 (mul binary64 x (part 0)) v)) D in
     pair (f ∙ ap (λ p. fmla x p y1) e ∙ ap (λ v. fmla x (part 2) v) Y1) (to_z-of_z {w = w64} {z = k} (record { sfits = h }) ∙ g ∙ ap count D)
 
 pub large-joined : (x p0 p1 p2 p3 kh lo kl y1 y2 : Float) (i : ℕ) (a b k : ℤ) → p0 ≡ part i → kh ≡ float_round binary64 (mul binary64 x p0) → p1 ≡ part (i + 1) → lo ≡ add binary64 (mul binary64 x p1) (sub binary64 (mul binary64 x p0) kh) → kl ≡ float_round binary64 lo
-    → p2 ≡ part (i + 2) → y1 ≡ add binary64 (mul binary64 x p2) (sub binary64 lo kl) → p3 ≡ part (i + 3) → y2 ≡ add binary64 (mul binary64 x p3) y1 → a ≡ to_signed 63 kh → b ≡ to_signed 63 kl → k ≡ wrapped a b → ◌≡◌ {A = Float × ℤ} (y2, k) (reduceFrom i x)
-unfolding reduceFrom
+    → p2 ≡ part (i + 2) → y1 ≡ add binary64 (mul binary64 x p2) (sub binary64 lo kl) → p3 ≡ part (i + 3) → y2 ≡ add binary64 (mul binary64 x p3) y1 → a ≡ to_signed 63 kh → b ≡ to_signed 63 kl → k ≡ wrapped a b → ◌≡◌ {A = Float × ℤ} (y2, k) (reduce_from i x)
+unfolding reduce_from
 large-joined x p0 p1 p2 p3 kh lo kl y1 y2 i a b k P0 KH P1 LO KL P2 Y1 P3 Y2 A B K =
     let c0 = part i in
     let c1 = part (i + 1) in
     let hi = mul binary64 x c0 in
-    let H : kh ≡ nearestWhole hi = KH ∙ ap (λ p. float_round binary64 (mul binary64 x p)) P0 in
-    let lo' = fmla x c1 (sub binary64 hi (nearestWhole hi)) in
+    let H : kh ≡ nearest_whole hi = KH ∙ ap (λ p. float_round binary64 (mul binary64 x p)) P0 in
+    let lo' = fmla x c1 (sub binary64 hi (nearest_whole hi)) in
     let L : lo ≡ lo' = LO ∙ ap (λ p. fmla x p (sub binary64 (mul binary64 x p0) kh)) P1 ∙ ap (λ p. fmla x c1 (sub binary64 (mul binary64 x p) kh)) P0 ∙ ap (λ v. fmla x c1 (sub binary64 hi v)) H in
-    let M : kl ≡ nearestWhole lo' = KL ∙ ap (λ v. float_round binary64 v) L in
-    let Y : y1 ≡ fmla x (part (i + 2)) (sub binary64 lo' (nearestWhole lo')) = Y1 ∙ ap (λ p. fmla x p (sub binary64 lo kl)) P2 ∙ ap (λ v. fmla x (part (i + 2)) (sub binary64 v kl)) L ∙ ap (λ v. fmla x (part (i + 2)) (sub binary64 lo' v)) M in
-    pair (Y2 ∙ ap (λ p. fmla x p y1) P3 ∙ ap (λ v. fmla x (part (i + 3)) v) Y) (K ∙ ap (λ z. wrapped z b) (A ∙ ap count H) ∙ ap (λ z. wrapped (count (nearestWhole hi)) z) (B ∙ ap count M))
+    let M : kl ≡ nearest_whole lo' = KL ∙ ap (λ v. float_round binary64 v) L in
+    let Y : y1 ≡ fmla x (part (i + 2)) (sub binary64 lo' (nearest_whole lo')) = Y1 ∙ ap (λ p. fmla x p (sub binary64 lo kl)) P2 ∙ ap (λ v. fmla x (part (i + 2)) (sub binary64 v kl)) L ∙ ap (λ v. fmla x (part (i + 2)) (sub binary64 lo' v)) M in
+    pair (Y2 ∙ ap (λ p. fmla x p y1) P3 ∙ ap (λ v. fmla x (part (i + 3)) v) Y) (K ∙ ap (λ z. wrapped z b) (A ∙ ap count H) ∙ ap (λ z. wrapped (count (nearest_whole hi)) z) (B ∙ ap count M))

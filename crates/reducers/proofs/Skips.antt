@@ -9,8 +9,8 @@ use Rattle.exact.specs.Multiple.{pw, Multiple}
 use Rattle.exact.proofs.Order.{≈-sym}
 use Rattle.exact.proofs.Powers.{two_is}
 use Rattle.exact.proofs.Multiple.{multiple-unit, multiple-trans, pw-multiple}
-use Rattle.reducers.specs.Reduce.{part, skips, leading, exponentOf}
-use Rattle.reducers.specs.Exact.{field, Lowest-bits, Lowest-digits, Skipped-are-whole-turns}
+use Rattle.reducers.specs.Reduce.{part, skips, leading, exponent_of}
+use Rattle.reducers.specs.Exact.{field, LowestBits, LowestDigits, SkippedAreWholeTurns}
 use Rattle.reducers.proofs.Large.{Word, Piece, product-grid}
 use Rattle.reducers.proofs.Pieces.{piece0, piece1, piece2, bits}
 use Rattle.reducers.proofs.Radian.{word_of, which, skips-is}
@@ -68,7 +68,7 @@ turns_at x e (suc (suc (suc i))) w l h = absurd (clash e l h)
     clash : (e : ℕ) → e < 255 → 255 ≤ e → ⊥
     clash e l h = omega arith
 
-pub skipped-turns : Skipped-are-whole-turns
+pub skipped-turns : SkippedAreWholeTurns
 skipped-turns w i ne h = turns_at (of_bits binary32 w) (field w) i (word_of w H) H (skipped-from (field w) i H (subst (λ n. i < n) skip h))
   where
     H : field w < 255
@@ -77,16 +77,16 @@ skipped-turns w i ne h = turns_at (of_bits binary32 w) (field w) i (word_of w H)
     same : field w % 256 ≡ field w
     same = omega arith
 
-    skip : skips leading (exponentOf (w % 2147483648)) ≡ which (field w)
+    skip : skips leading (exponent_of (w % 2147483648)) ≡ which (field w)
     skip = ap (λ y. skips leading (pos y -ℤ pos 127)) same ∙ skips-is (field w) H
 
-pub lowest-digits : Lowest-digits
+pub lowest-digits : LowestDigits
 lowest-digits w ne = multiple-unit (≈-sym (two_is (field w - 1) 149)) (word_of w H).grid
   where
     H : field w < 255
     H = omega arith
 
-pub lowest-bits : Lowest-bits
+pub lowest-bits : LowestBits
 unfolding of_bits of_fields odd count_trailing_zeros size
 lowest-bits zero h = record { p = 170891319; m = 0; is = record { eq = refl }; half = 85445659; odd = refl }
 lowest-bits (suc zero) h = record { p = 0; m = 227401559; is = record { eq = refl }; half = 113700779; odd = refl }

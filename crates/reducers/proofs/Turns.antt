@@ -9,17 +9,17 @@ use Rattle.exact.proofs.Cert.{ring}
 use Rattle.exact.proofs.Multiple.{multiple-⊕}
 use Rattle.exact.proofs.Away.{int-multiple}
 use Rattle.circle.specs.Circle.{Alike}
-use Rattle.reducers.specs.Exact.{modTurn}
+use Rattle.reducers.specs.Exact.{mod_turn}
 
 -- ---- k modulo 64
-pub modTurn-lt : (k : ℤ) → modTurn k < 64
-modTurn-lt (pos n) = omega arith
-modTurn-lt (negsuc n) = omega arith
+pub mod_turn-lt : (k : ℤ) → mod_turn k < 64
+mod_turn-lt (pos n) = omega arith
+mod_turn-lt (negsuc n) = omega arith
 
 -- k is that, but for whole turns
-pub modTurn-turns : (k : ℤ) → Multiple (integer k ⊖ whole (modTurn k)) (whole 64)
-modTurn-turns (pos n) = record { p = n / 64; m = 0; is = record { eq = omega arith } }
-modTurn-turns (negsuc n) = record { p = 0; m = n / 64 + 1; is = record { eq = omega arith } }
+pub mod_turn-turns : (k : ℤ) → Multiple (integer k ⊖ whole (mod_turn k)) (whole 64)
+mod_turn-turns (pos n) = record { p = n / 64; m = 0; is = record { eq = omega arith } }
+mod_turn-turns (negsuc n) = record { p = 0; m = n / 64 + 1; is = record { eq = omega arith } }
 
 -- ---- whole turns more or less
 dif-is : (p m : ℕ) → dif p m ≈ whole p ⊖ whole m
@@ -43,8 +43,8 @@ regroup : (r y k t : Fraction) → (k ⊕ y) ⊕ t ≈ (r ⊕ y) ⊕ ((k ⊖ r) 
 unfolding same
 regroup r y k t = ring (free r ∷ free y ∷ free k ∷ free t ∷ []) ((var 2 :+ var 1) :+ var 3) ((var 0 :+ var 1) :+ ((var 2 :- var 0) :+ var 3)) tt
 
-pub modTurn-alike : (k : ℤ) (y u : Fraction) (n : ℤ) (c : Fraction) → Within ((integer k ⊕ y) ⊕ integer n ⊗ whole 64) u c → Alike (whole (modTurn k) ⊕ y) u c
-modTurn-alike k y u n c h =
-    let r = whole (modTurn k) in
+pub mod_turn-alike : (k : ℤ) (y u : Fraction) (n : ℤ) (c : Fraction) → Within ((integer k ⊕ y) ⊕ integer n ⊗ whole 64) u c → Alike (whole (mod_turn k) ⊕ y) u c
+mod_turn-alike k y u n c h =
+    let r = whole (mod_turn k) in
     let t = integer n ⊗ whole 64 in
-    turns-alike (r ⊕ y) u c ((integer k ⊖ r) ⊕ t) (multiple-⊕ (modTurn-turns k) (int-multiple n (whole 64))) (within-≈ (regroup r y (integer k) t) (≈-refl u) h)
+    turns-alike (r ⊕ y) u c ((integer k ⊖ r) ⊕ t) (multiple-⊕ (mod_turn-turns k) (int-multiple n (whole 64))) (within-≈ (regroup r y (integer k) t) (≈-refl u) h)

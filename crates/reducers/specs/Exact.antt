@@ -7,48 +7,48 @@ use Rattle.exact.specs.Fraction.{Fraction, ◌≈◌, ◌⊕◌, ◌⊗◌, ◌�
 use Rattle.exact.specs.Value.{value_of, integer}
 use Rattle.exact.specs.Multiple.{Multiple, OddMultiple, Smaller, Apart}
 use Rattle.exact.specs.Rounded.{two}
-use Rattle.circle.specs.Circle.{bigPi}
-use Rattle.reducers.specs.Reduce.{part, lowest, leading, skips, exponentOf}
+use Rattle.circle.specs.Circle.{big_pi}
+use Rattle.reducers.specs.Reduce.{part, lowest, leading, skips, exponent_of}
 
 -- how many steps a radian is, 64 steps to a turn
-abbrev pub stepsPerRadian : Fraction
-stepsPerRadian = frac (2 ^ 261) bigPi
+abbrev pub steps_per_radian : Fraction
+steps_per_radian = frac (2 ^ 261) big_pi
 
 -- the exact steps of a float that stands for radians
-abbrev pub radianSteps : Float → Fraction
-radianSteps x = value_of x ⊗ stepsPerRadian
+abbrev pub radian_steps : Float → Fraction
+radian_steps x = value_of x ⊗ steps_per_radian
 
 -- the sum of the first i parts of 32/π
-abbrev pub sumParts : ℕ → Fraction
-sumParts zero = whole 0
-sumParts (suc i) = sumParts i ⊕ value_of (part i)
+abbrev pub sum_parts : ℕ → Fraction
+sum_parts zero = whole 0
+sum_parts (suc i) = sum_parts i ⊕ value_of (part i)
 
 -- all eight, times π, are within 2 ^ -230 of 32
 abbrev pub PartsAreRight : Type 0
-PartsAreRight = Within (sumParts 8 ⊗ frac bigPi (2 ^ 256)) (whole 32) (tiny 230)
+PartsAreRight = Within (sum_parts 8 ⊗ frac big_pi (2 ^ 256)) (whole 32) (tiny 230)
 
 -- the exponent's field of a 32-bit word
 abbrev pub field : ℕ → ℕ
 field w = w % 2147483648 / 8388608
 
 -- each of the first seven parts is an odd number times its lowest bit
-abbrev pub Lowest-bits : Type 0
-Lowest-bits = (i : ℕ) → i < 7 → OddMultiple (value_of (part i)) (two (slice_index_or lowest i (pos 0)))
+abbrev pub LowestBits : Type 0
+LowestBits = (i : ℕ) → i < 7 → OddMultiple (value_of (part i)) (two (slice_index_or lowest i (pos 0)))
 
 -- a finite float is a multiple of its lowest bit: 2 ^ (e - 23) for the exponent e, and 2 ^ -149 for a field of 0
-abbrev pub Lowest-digits : Type 0
-Lowest-digits = (w : ℕ) → (field w ≢ 255) → Multiple (value_of (from_bits binary32 w)) (two (minus (field w - 1) 149))
+abbrev pub LowestDigits : Type 0
+LowestDigits = (w : ℕ) → (field w ≢ 255) → Multiple (value_of (from_bits binary32 w)) (two (minus (field w - 1) 149))
 
 -- the product of a finite float and a part that is skipped for its exponent is a number of whole turns
-abbrev pub Skipped-are-whole-turns : Type 0
-Skipped-are-whole-turns =
-    (w i : ℕ) → (field w ≢ 255) → i < skips leading (exponentOf (w % 2147483648)) →
+abbrev pub SkippedAreWholeTurns : Type 0
+SkippedAreWholeTurns =
+    (w i : ℕ) → (field w ≢ 255) → i < skips leading (exponent_of (w % 2147483648)) →
     Multiple (value_of (from_bits binary32 w) ⊗ value_of (part i)) (whole 64)
 
 -- k modulo 64
-abbrev pub modTurn : ℤ → ℕ
-modTurn (pos n) = n % 64
-modTurn (negsuc n) = 63 - n % 64
+abbrev pub mod_turn : ℤ → ℕ
+mod_turn (pos n) = n % 64
+mod_turn (negsuc n) = 63 - n % 64
 
 -- y and k answer the word w: but for whole turns k + y is within 2 ^ -52 of its exact steps, and y is zero for zero alone
 pub record Reduced (w : ℕ) (y : Float) (k : ℤ) : Type 0 where
@@ -56,7 +56,7 @@ pub record Reduced (w : ℕ) (y : Float) (k : ℤ) : Type 0 where
   pub small : Smaller (value_of y) (frac 3 4)
   pub few : unsigned_abs k < 2 ^ 57
   pub turns : ℤ
-  pub near : Within ((integer k ⊕ value_of y) ⊕ integer turns ⊗ whole 64) (radianSteps (from_bits binary32 w)) (tiny 52)
+  pub near : Within ((integer k ⊕ value_of y) ⊕ integer turns ⊗ whole 64) (radian_steps (from_bits binary32 w)) (tiny 52)
   pub nonzero : (value_of (from_bits binary32 w) ≈ whole 0 → ⊥) → value_of y ≈ whole 0 → ⊥
   -- where k is an odd number of quarter turns
   pub apart : unsigned_abs k % 32 ≡ 16 → Apart (value_of y) (tiny 115)

@@ -18,8 +18,8 @@ abbrev pub fmla : Float → Float → Float → Float
 fmla a b c = add binary64 (mul binary64 a b) c
 
 -- the nearest whole number, halves away from zero
-abbrev pub nearestWhole : Float → Float
-nearestWhole = float_round binary64
+abbrev pub nearest_whole : Float → Float
+nearest_whole = float_round binary64
 
 -- as an i64
 abbrev pub count : Float → ℤ
@@ -30,19 +30,19 @@ abbrev pub wrapped : ℤ → ℤ → ℤ
 wrapped a b = to_z w64 ((of_z w64 a + of_z w64 b) % 2 ^ 64)
 
 -- the reducer of floats below 2 ^ 22
-unfoldable pub reduceSmall : Float → Float × ℤ
-reduceSmall x =
+unfoldable pub reduce_small : Float → Float × ℤ
+reduce_small x =
     let prod = mul binary64 x (part 0) in
-    let k = nearestWhole prod in
+    let k = nearest_whole prod in
     (fmla x (part 2) (fmla x (part 1) (sub binary64 prod k)), count k)
 
 -- by the parts from the i-th on
-unfoldable pub reduceFrom : ℕ → Float → Float × ℤ
-reduceFrom i x =
+unfoldable pub reduce_from : ℕ → Float → Float × ℤ
+reduce_from i x =
     let hi = mul binary64 x (part i) in
-    let kh = nearestWhole hi in
+    let kh = nearest_whole hi in
     let lo = fmla x (part (i + 1)) (sub binary64 hi kh) in
-    let kl = nearestWhole lo in
+    let kl = nearest_whole lo in
     (fmla x (part (i + 3)) (fmla x (part (i + 2)) (sub binary64 lo kl)), wrapped (count kh) (count kl))
 
 -- the exponents of the lowest bits of the parts, the last part cut short
@@ -54,25 +54,25 @@ abbrev pub leading : List ℤ
 leading = take 4 lowest
 
 -- the product of a float of the exponent e and a part of the lowest bit l is a multiple of 64
-abbrev pub wholeTurns : ℤ → ℤ → Bool
-wholeTurns e l = int_lt (pos 5) (e -ℤ pos 23 +ℤ l)
+abbrev pub whole_turns : ℤ → ℤ → Bool
+whole_turns e l = int_lt (pos 5) (e -ℤ pos 23 +ℤ l)
 
 -- how many such parts lead the list
 abbrev pub skips : List ℤ → ℤ → ℕ
 skips [] e = 0
-skips (l ∷ ls) e = cond (wholeTurns e l) (suc (skips ls e)) 0
+skips (l ∷ ls) e = cond (whole_turns e l) (suc (skips ls e)) 0
 
 -- the reducer of larger floats, of the exponent e
-abbrev pub reduceLarge : Float → ℤ → Float × ℤ
-reduceLarge x e = reduceFrom (skips leading e) x
+abbrev pub reduce_large : Float → ℤ → Float × ℤ
+reduce_large x e = reduce_from (skips leading e) x
 
 -- the exponent of the f32 whose pattern is b
-abbrev pub exponentOf : ℕ → ℤ
-exponentOf b = pos (b / 8388608 % 256) -ℤ pos 127
+abbrev pub exponent_of : ℕ → ℤ
+exponent_of b = pos (b / 8388608 % 256) -ℤ pos 127
 
 -- the reducer of the float x whose pattern without its sign is b
 abbrev pub reduce : Float → ℕ → Float × ℤ
-reduce x b = cond (nat_lt b 1249902592) (reduceSmall x) (reduceLarge x (exponentOf b))
+reduce x b = cond (nat_lt b 1249902592) (reduce_small x) (reduce_large x (exponent_of b))
 
 -- ---- half turns
 -- 32
@@ -80,17 +80,17 @@ abbrev pub thirtytwo : Float
 thirtytwo = from_bits binary64 4629700416936869888
 
 -- -1 / 2
-abbrev pub minusHalf : Float
-minusHalf = neg (from_bits binary64 4602678819172646912)
+abbrev pub minus_half : Float
+minus_half = neg (from_bits binary64 4602678819172646912)
 
 -- by steps, 32 to a half turn
-unfoldable pub reducePi : Float → Float × ℤ
-reducePi x =
-    let k = nearestWhole (mul binary64 x thirtytwo) in
+unfoldable pub reduce_pi : Float → Float × ℤ
+reduce_pi x =
+    let k = nearest_whole (mul binary64 x thirtytwo) in
     (fmla x thirtytwo (neg k), count k)
 
 -- by quarter turns
-unfoldable pub reduceQuarter : Float → Float × ℤ
-reduceQuarter x =
-    let k = nearestWhole (add binary64 x x) in
-    (fmla k minusHalf x, count k)
+unfoldable pub reduce_quarter : Float → Float × ℤ
+reduce_quarter x =
+    let k = nearest_whole (add binary64 x x) in
+    (fmla k minus_half x, count k)

@@ -1,7 +1,7 @@
 ghost use Rattle.std.specs.Prelude.{◌≡◌, ℕ, ◌%◌, ◌<◌, ◌≤◌, pos, ◌≢◌, from_bits, slice_index_or};
 ghost use Rattle.std.specs.Float.{binary32};
-ghost use Rattle.reducers.specs.Exact.{field, modTurn, Reduced, PartsAreRight, Lowest-bits, Lowest-digits, Skipped-are-whole-turns};
-ghost use Rattle.reducers.specs.Reduce.{reduceSmall, reduceLarge, skips, lowest, leading, wholeTurns, part, exponentOf};
+ghost use Rattle.reducers.specs.Exact.{field, mod_turn, Reduced, PartsAreRight, LowestBits, LowestDigits, SkippedAreWholeTurns};
+ghost use Rattle.reducers.specs.Reduce.{reduce_small, reduce_large, skips, lowest, leading, whole_turns, part, exponent_of};
 ghost use Rattle.reducers.specs.Reduce.{reduce as reduced};
 
 use rounding::{f_fmla, round_counted};
@@ -45,7 +45,7 @@ pub fn parts() -> usize
 // Whether the product of the i-th part and a float of this exponent is a multiple of 64.
 fn is_whole_turns(exponent: i32, i: usize) -> bool
     requires { i < 8 }
-    ensures { result ≡ wholeTurns exponent (slice_index_or lowest i (pos 0)) }
+    ensures { result ≡ whole_turns exponent (slice_index_or lowest i (pos 0)) }
 {
     const FRACTION_LEN: i64 = 23;
     let x_lsb_exp = exponent as i64 - FRACTION_LEN;
@@ -66,15 +66,15 @@ fn skipped(exponent: i32) -> usize
 
 // Why parts may be skipped: their products with the float are multiples of 64.
 pub fn skip_rule() -> u8
-    ensures parts { Lowest-bits }
-    ensures floats { Lowest-digits }
-    ensures skipped { Skipped-are-whole-turns }
+    ensures parts { LowestBits }
+    ensures floats { LowestDigits }
+    ensures skipped { SkippedAreWholeTurns }
 {
     0
 }
 
 fn get_exponent_f32(bits: u32) -> i32
-    ensures { result ≡ exponentOf bits }
+    ensures { result ≡ exponent_of bits }
 {
     ((bits >> 23) & 0xff) as i32 - 127
 }
@@ -85,7 +85,7 @@ pub const SMALL_PASS_BOUND: u32 = 0x4a80_0000;
 impl ArgumentReducer {
     // For |x| < 2^22: k = round(x * 32 / pi) and y = (x * 32 / pi) - k.
     pub fn reduce_small(self) -> (f64, i64)
-        ensures { result ≡ reduceSmall self.x }
+        ensures { result ≡ reduce_small self.x }
     {
         let prod = self.x * thirtytwo_over_pi(0);
         let (kd, k) = round_counted(prod);
@@ -97,7 +97,7 @@ impl ArgumentReducer {
 
     // The same for larger x of that exponent, k up to a multiple of 64.
     pub fn reduce_large(self, exponent: i32) -> (f64, i64)
-        ensures { result ≡ reduceLarge self.x exponent }
+        ensures { result ≡ reduce_large self.x exponent }
     {
         let idx = skipped(exponent);
         let prod_hi = self.x * thirtytwo_over_pi(idx);
@@ -130,7 +130,7 @@ impl ArgumentReducer {
 
 // k modulo 64: the step within a turn.
 pub fn step_of(k: i64) -> u8
-    ensures { result ≡ modTurn k }
+    ensures { result ≡ mod_turn k }
 {
     k.rem_euclid(64) as u8
 }

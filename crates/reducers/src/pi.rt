@@ -3,7 +3,7 @@ ghost use Rattle.std.specs.Float.Ieee.Scale.{finite};
 ghost use Rattle.exact.specs.Fraction.{whole};
 ghost use Rattle.exact.specs.Value.{value_of};
 ghost use Rattle.exact.specs.Multiple.{Smaller};
-ghost use Rattle.reducers.specs.Reduce.{reducePi, reduceQuarter};
+ghost use Rattle.reducers.specs.Reduce.{reduce_pi, reduce_quarter};
 ghost use Rattle.reducers.specs.Exact.{PiReduced, QuarterReduced};
 
 use rounding::{f_fmla, round_counted};
@@ -17,7 +17,7 @@ pub struct ArgumentReducerPi {
 impl ArgumentReducerPi {
     // k = round(x * 32) and y = x * 32 - k.
     pub fn reduce(self) -> (f64, i64)
-        ensures is { result ≡ reducePi self.x }
+        ensures is { result ≡ reduce_pi self.x }
         ensures exact { T (finite self.x) → Smaller (value_of self.x) (whole 16777216) → PiReduced self.x result.0 result.1 }
     {
         let (kd, k) = round_counted(self.x * 32.0);
@@ -27,7 +27,7 @@ impl ArgumentReducerPi {
 
     // k = round(x * 2) and y = x - k / 2.
     pub fn reduce_0p25(self) -> (f64, i64)
-        ensures is { result ≡ reduceQuarter self.x }
+        ensures is { result ≡ reduce_quarter self.x }
         ensures exact { T (finite self.x) → Smaller (value_of self.x) (whole 8388608) → QuarterReduced self.x result.0 result.1 }
     {
         let (kd, k) = round_counted(self.x + self.x);

@@ -14,13 +14,13 @@ use Rattle.std.specs.Float.{float_round}
 use Rattle.exact.specs.Fraction.{Fraction, ◌≈◌, ◌⊑◌, ◌⊖◌, neg, whole, frac, Size, Within}
 use Rattle.exact.specs.Value.{value_of, integer, signed, Same}
 use Rattle.exact.specs.Multiple.{dif, pw, Multiple, Apart}
-use Rattle.exact.proofs.Order.{≈-trans, ≈-sym, ≈-refl, ⊗-one, ⊑_trans, ⊕-cong, neg-cong, within-≈}
+use Rattle.exact.proofs.Order.{≈-trans, ≈-sym, ≈-refl, ⊗-one, ⊑_trans, ⊕-cong, neg_cong, within-≈}
 use Rattle.exact.proofs.Rounding.{signed-value, sub-rounded, rounded-of}
 use Rattle.exact.proofs.Multiple.{exact-at, multiple-unit, one-pw, pw-le}
 use Rattle.exact.proofs.Keep.{rounded-apart, apart-⊑, apart-≈}
 use Rattle.exact.specs.Laws.{Away}
 use Rattle.exact.proofs.Away.{away}
-use Rattle.rounding.specs.Round.{exponentField}
+use Rattle.rounding.specs.Round.{exponent_field}
 use Rattle.rounding.proofs.Fields.{fields, sign, pattern-is}
 use Rattle.rounding.proofs.Rounds.{value-whole, away-fits}
 
@@ -134,7 +134,7 @@ unfolding sign
 sum-value x h lo hi =
     let b = to_bits binary64 x in
     let s : leb 9223372036854775808 b ≡ false = is_false (leb 9223372036854775808 b) (lib.Arith.lt→nleb 9223372036854775808 b (omega arith)) in
-    let j : exponentField binary64 b ≡ 1075 = omega arith in
+    let j : exponent_field binary64 b ≡ 1075 = omega arith in
     let t = b % 4503599627370496 in
     let p : of_bits binary64 b ≡ of_fields binary64 false 1075 t = pattern-is binary64 b false 1075 t s j refl in
     let v : HasValue x false (4503599627370496 + t) 1 = value-whole x false ((4503599627370496 + t) * 2 ^ 1074) (2 ^ 1074) (4503599627370496 + t) (pow_pos 1074) refl (subst (λ z. HasValue z false ((4503599627370496 + t) * 2 ^ 1074) (2 ^ 1074)) (sym p ∙ of_bits-to_bits binary64 x h) (fields binary64 false 1075 t (lit< tt) (lit< tt))) in
@@ -153,7 +153,7 @@ shift-finite = tt
 whole-value : (x : Float) → Finite x → 4842495499330125824 ≤ to_bits binary64 (sum_of x) → to_bits binary64 (sum_of x) < 4844747299143811072 → Same (whole_of x) (dif (to_bits binary64 (sum_of x) - 4836865999795912704) 6755399441055744)
 whole-value x F lo hi =
     let n = to_bits binary64 (sum_of x) - 4836865999795912704 in
-    let v : value_of (sum_of x) ⊖ value_of shift ≈ dif n 6755399441055744 = ≈-trans (⊕-cong (sum-value (sum_of x) (add-fits binary64 x shift) lo hi) (neg-cong shift-value)) (record { eq = omega arith }) in
+    let v : value_of (sum_of x) ⊖ value_of shift ≈ dif n 6755399441055744 = ≈-trans (⊕-cong (sum-value (sum_of x) (add-fits binary64 x shift) lo hi) (neg_cong shift-value)) (record { eq = omega arith }) in
     let M : Multiple (dif n 6755399441055744) (pw 0 0) = record { p = n; m = 6755399441055744; is = record { eq = omega arith } } in
     let S : Size (dif n 6755399441055744) (pw 53 0) = record { below = record { le = omega arith }; above = record { le = omega arith } } in
     exact-at binary64 (whole_of x) (dif n 6755399441055744) 0 0 1074 refl (rounded-of v (sub-rounded binary64 (sum_of x) shift F.sum shift-finite)) M S (lit< tt)
@@ -223,7 +223,7 @@ counted-at x h F b B lo hi ne nr = go (ltb 4843621399236968448 b) (ltb→lt 4843
     is = ≈-trans A.integral.is (⊗-one (dif A.integral.p A.integral.m))
 
     E : A.integral.p + 6755399441055744 ≡ b - 4836865999795912704 + A.integral.m
-    E = one-whole (value_of x) A.integral.p A.integral.m (b - 4836865999795912704) 6755399441055744 (within-≈ is (≈-refl (value_of x)) A.near) (λ g. nr (apart-≈ (⊕-cong (≈-refl (value_of x)) (neg-cong (≈-sym V.is))) g))
+    E = one-whole (value_of x) A.integral.p A.integral.m (b - 4836865999795912704) 6755399441055744 (within-≈ is (≈-refl (value_of x)) A.near) (λ g. nr (apart-≈ (⊕-cong (≈-refl (value_of x)) (neg_cong (≈-sym V.is))) g))
 
     R : value_of (float_round binary64 x) ≈ dif (b - 4836865999795912704) 6755399441055744
     R = ≈-trans is (record { eq = omega (arith, E) })

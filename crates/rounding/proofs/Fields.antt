@@ -3,7 +3,7 @@ use Rattle.std.proofs.Common.{◌≡◌, ℕ, zero, suc, ◌+◌, ◌-◌, ◌*�
 use lib.Dec.{nleb→lt}
 use lib.Ieee.{Float, Format, binary32, binary64, nan, inf, fin, prec, emax, low, hid, ones, top, of_bits, of_fields, odd}
 use lib.Ieee.Exact.{HasValue, odd_sign}
-use Rattle.rounding.specs.Round.{exponentField, sign_bit}
+use Rattle.rounding.specs.Round.{exponent_field, sign_bit}
 
 -- with a leading digit
 pub fields : (f : Format) (s : Bool) (j t : ℕ) → 0 < j → j < ones f → HasValue (of_fields f s j t) s ((hid f + t) * 2 ^ (j - 1)) (2 ^ low f)
@@ -29,9 +29,9 @@ fields-zero f s t = odd_sign (prec f) s t 0 (low f)
 unfoldable pub sign : Format → ℕ → Bool
 sign f b = leb (top f) b
 
-pub pattern-is : (f : Format) (b : ℕ) (s : Bool) (j t : ℕ) → sign f b ≡ s → exponentField f b ≡ j → b % hid f ≡ t → of_bits f b ≡ of_fields f s j t
+pub pattern-is : (f : Format) (b : ℕ) (s : Bool) (j t : ℕ) → sign f b ≡ s → exponent_field f b ≡ j → b % hid f ≡ t → of_bits f b ≡ of_fields f s j t
 unfolding of_bits sign
-pattern-is f b s j t S J M = ap (λ z. of_fields f z (exponentField f b) (b % hid f)) S ∙ ap (λ z. of_fields f s z (b % hid f)) J ∙ ap (λ z. of_fields f s j z) M
+pattern-is f b s j t S J M = ap (λ z. of_fields f z (exponent_field f b) (b % hid f)) S ∙ ap (λ z. of_fields f s z (b % hid f)) J ∙ ap (λ z. of_fields f s j z) M
 
 pub sign_same : (f : Format) (b c : ℕ) → (top f ≤ b → top f ≤ c) → (b < top f → c < top f) → sign f c ≡ sign f b
 unfolding sign
@@ -43,7 +43,7 @@ sign_same f b c g h = go (leb (top f) b) (leb→le (top f) b) (nleb→lt (top f)
 
 pub record Placed (f : Format) (b c j t : ℕ) : Type 0 where
   pub same : sign f c ≡ sign f b
-  pub field : exponentField f c ≡ j
+  pub field : exponent_field f c ≡ j
   pub digits : c % hid f ≡ t
 
 -- ---- in the numbers of each format
@@ -63,7 +63,7 @@ pub twice_hid : (f : Format) (m : ℕ) → hid f ≤ m → 2 ^ prec f ≤ m * 2
 twice_hid binary32 m h = omega arith
 twice_hid binary64 m h = omega arith
 
-pub field_top : (f : Format) (b : ℕ) → ones f ≤ exponentField f b → exponentField f b ≡ ones f
+pub field_top : (f : Format) (b : ℕ) → ones f ≤ exponent_field f b → exponent_field f b ≡ ones f
 field_top binary32 b h = omega arith
 field_top binary64 b h = omega arith
 
@@ -79,15 +79,15 @@ pub split : (f : Format) (b : ℕ) → hid f ≤ b → b ≡ (b / hid f - 1) * h
 split binary32 b h = omega arith
 split binary64 b h = omega arith
 
-pub reaches : (f : Format) (b : ℕ) → emax f ≤ exponentField f b → hid f ≤ b
+pub reaches : (f : Format) (b : ℕ) → emax f ≤ exponent_field f b → hid f ≤ b
 reaches binary32 b h = omega arith
 reaches binary64 b h = omega arith
 
 -- the field stays below the next power of two, and is one more at it
-pub stays : (f : Format) (b r : ℕ) → b < 2 * top f → emax f ≤ exponentField f b → hid f ≤ r → r < 2 ^ prec f → (c : ℕ) → c ≡ (b / hid f - 1) * hid f + r → Placed f b c (exponentField f b) (r - hid f)
+pub stays : (f : Format) (b r : ℕ) → b < 2 * top f → emax f ≤ exponent_field f b → hid f ≤ r → r < 2 ^ prec f → (c : ℕ) → c ≡ (b / hid f - 1) * hid f + r → Placed f b c (exponent_field f b) (r - hid f)
 stays binary32 b r B J L R c e = record { same = sign_same binary32 b c (λ l. omega arith) (λ l. omega arith); field = omega arith; digits = omega arith }
 stays binary64 b r B J L R c e = record { same = sign_same binary64 b c (λ l. omega arith) (λ l. omega arith); field = omega arith; digits = omega arith }
 
-pub carries : (f : Format) (b : ℕ) → b < 2 * top f → emax f ≤ exponentField f b → exponentField f b < suc (low f) → (c : ℕ) → c ≡ (b / hid f - 1) * hid f + 2 ^ prec f → Placed f b c (exponentField f b + 1) 0
+pub carries : (f : Format) (b : ℕ) → b < 2 * top f → emax f ≤ exponent_field f b → exponent_field f b < suc (low f) → (c : ℕ) → c ≡ (b / hid f - 1) * hid f + 2 ^ prec f → Placed f b c (exponent_field f b + 1) 0
 carries binary32 b B J K c e = record { same = sign_same binary32 b c (λ l. omega arith) (λ l. omega arith); field = omega arith; digits = omega arith }
 carries binary64 b B J K c e = record { same = sign_same binary64 b c (λ l. omega arith) (λ l. omega arith); field = omega arith; digits = omega arith }

@@ -11,8 +11,8 @@ use lib.Ieee.Nearest.{closest, closest_same, div_same, nearest-ge}
 use lib.Ieee.Scale.{round_same}
 use Rattle.std.specs.Float.{round_to_format}
 use Rattle.std.proofs.num.Patterns.{differs}
-use Rattle.rounding.specs.Round.{exponentField}
-use Rattle.rounding.specs.Narrowing.{narrowBits}
+use Rattle.rounding.specs.Round.{exponent_field}
+use Rattle.rounding.specs.Narrowing.{narrow_bits}
 use Rattle.rounding.proofs.Fields.{fields, sign, pattern-is}
 use Rattle.rounding.proofs.Wholes.{one-wider, normal}
 
@@ -97,13 +97,13 @@ closest-shift c m =
     ap (λ z. nearest z (compare ((c * 4503599627370496 + m) % unit * 2) unit)) a ∙ ap (λ z. nearest (c * 8388608 + m / unit) (compare (z * 2) unit)) b ∙ shifted (m / unit) c (compare (m % unit * 2) unit)
 
 -- ---- the units as a pattern
-in-range : (q k n : ℕ) → q < 2 ^ 24 → 24 + k ≤ n → ltb (q * 2 ^ k) (2 ^ n) ≡ true
-in-range q k n h l = is_true (ltb (q * 2 ^ k) (2 ^ n)) (lt→ltb (q * 2 ^ k) (2 ^ n) (lt_of_lt_of_le (shl_lt 24 k h) (pow_mono l)))
+in_range_lem : (q k n : ℕ) → q < 2 ^ 24 → 24 + k ≤ n → ltb (q * 2 ^ k) (2 ^ n) ≡ true
+in_range_lem q k n h l = is_true (ltb (q * 2 ^ k) (2 ^ n)) (lt→ltb (q * 2 ^ k) (2 ^ n) (lt_of_lt_of_le (shl_lt 24 k h) (pow_mono l)))
 
 small_units : (s : Bool) (q k : ℕ) → 8388608 ≤ q → q < 16777216 → k ≤ 253 → units binary32 s q k ≡ of_fields binary32 s (suc k) (q - 8388608)
 unfolding units odd
 small_units s q k lo hi l =
-    ap (λ t. cond t (odd 25 s q k 149) (inf s)) (in-range q k 277 hi (omega arith))
+    ap (λ t. cond t (odd 25 s q k 149) (inf s)) (in_range_lem q k 277 hi (omega arith))
     ∙ widths q (omega arith) hi
     ∙ ap (λ z. odd 24 s z k 149) (omega arith)
     ∙ sym (normal s k (q - 8388608) (omega arith))
@@ -123,7 +123,7 @@ top-units s k l = go (ltb k 253) (ltb→lt k 253) (nltb→le k 253)
     double p = omega arith
 
     less : (k : ℕ) → k < 253 → ltb (16777216 * 2 ^ k) (2 ^ 277) ≡ true
-    less k h = ap (λ z. ltb z (2 ^ 277)) (double (2 ^ k) ∙ ap (λ z. 8388608 * z) (sym (native.Mathlib.Nat.pow-suc 2 k))) ∙ in-range 8388608 (suc k) 277 (lit< tt) (omega arith)
+    less k h = ap (λ z. ltb z (2 ^ 277)) (double (2 ^ k) ∙ ap (λ z. 8388608 * z) (sym (native.Mathlib.Nat.pow-suc 2 k))) ∙ in_range_lem 8388608 (suc k) 277 (lit< tt) (omega arith)
 
     go : (t : Bool) → (T t → k < 253) → (T (not t) → 253 ≤ k) → units binary32 s 16777216 k ≡ of_fields binary32 s (suc (suc k)) 0
     go true f g =
@@ -136,7 +136,7 @@ top-units s k l = go (ltb k 253) (ltb→lt k 253) (nltb→le k 253)
     go false f g = large k (g tt) l
 
 -- the field and the digits of the sign and c
-placed : (b k q c : ℕ) → k ≤ 253 → 8388608 ≤ q → q < 16777216 → c ≡ cond (leb 9223372036854775808 b) 2147483648 0 + (k * 8388608 + q) → (sign binary32 c ≡ sign binary64 b) × (exponentField binary32 c ≡ suc k) × (c % 8388608 ≡ q - 8388608)
+placed : (b k q c : ℕ) → k ≤ 253 → 8388608 ≤ q → q < 16777216 → c ≡ cond (leb 9223372036854775808 b) 2147483648 0 + (k * 8388608 + q) → (sign binary32 c ≡ sign binary64 b) × (exponent_field binary32 c ≡ suc k) × (c % 8388608 ≡ q - 8388608)
 unfolding sign
 placed b k q c l lo hi e = go (leb 9223372036854775808 b) e
   where
@@ -144,7 +144,7 @@ placed b k q c l lo hi e = go (leb 9223372036854775808 b) e
     go true e = (is_true (leb 2147483648 c) (le→leb 2147483648 c (omega arith)), omega arith, omega arith)
     go false e = (is_false (leb 2147483648 c) (lib.Arith.lt→nleb 2147483648 c (omega arith)), omega arith, omega arith)
 
-placed-top : (b k c : ℕ) → k ≤ 253 → c ≡ cond (leb 9223372036854775808 b) 2147483648 0 + (k * 8388608 + 16777216) → (sign binary32 c ≡ sign binary64 b) × (exponentField binary32 c ≡ suc (suc k)) × (c % 8388608 ≡ 0)
+placed-top : (b k c : ℕ) → k ≤ 253 → c ≡ cond (leb 9223372036854775808 b) 2147483648 0 + (k * 8388608 + 16777216) → (sign binary32 c ≡ sign binary64 b) × (exponent_field binary32 c ≡ suc (suc k)) × (c % 8388608 ≡ 0)
 unfolding sign
 placed-top b k c l e = go (leb 9223372036854775808 b) e
   where
@@ -165,18 +165,18 @@ units-pattern b k q c l lo hi e = go (ltb q 16777216) (ltb→lt q 16777216) (nlt
         ap (λ n. units binary32 (sign binary64 b) n k) z ∙ top-units (sign binary64 b) k l ∙ sym (pattern-is binary32 c (sign binary64 b) (suc (suc k)) 0 p.0 p.1 p.2)
 
 -- ---- all
-pub narrow-pattern : (b : ℕ) → 897 ≤ exponentField binary64 b → exponentField binary64 b ≤ 1150 → of_bits binary32 (narrowBits b) ≡ round_to_format binary32 (of_bits binary64 b)
-unfolding narrowBits
-narrow-pattern b lo hi = sym (valued binary32 (of_bits binary64 b) s (m * 2 ^ (j - 1)) (2 ^ 1074) (pow_pos 1074) v ∙ scaled ∙ kept-units s m k m-lo m-hi ∙ units-pattern b k (closest m unit) (narrowBits b) k-hi (between m m-lo m-hi).0 (between m m-lo m-hi).1 c-is)
+pub narrow-pattern : (b : ℕ) → 897 ≤ exponent_field binary64 b → exponent_field binary64 b ≤ 1150 → of_bits binary32 (narrow_bits b) ≡ round_to_format binary32 (of_bits binary64 b)
+unfolding narrow_bits
+narrow-pattern b lo hi = sym (valued binary32 (of_bits binary64 b) s (m * 2 ^ (j - 1)) (2 ^ 1074) (pow_pos 1074) v ∙ scaled ∙ kept-units s m k m-lo m-hi ∙ units-pattern b k (closest m unit) (narrow_bits b) k-hi (between m m-lo m-hi).0 (between m m-lo m-hi).1 c-is)
   where
     s : Bool
     s = sign binary64 b
 
     j : ℕ
-    j = exponentField binary64 b
+    j = exponent_field binary64 b
 
     k : ℕ
-    k = exponentField binary64 b - 897
+    k = exponent_field binary64 b - 897
 
     m : ℕ
     m = 4503599627370496 + b % 4503599627370496
@@ -187,45 +187,45 @@ narrow-pattern b lo hi = sym (valued binary32 (of_bits binary64 b) s (m * 2 ^ (j
     m-hi : 4503599627370496 + b % 4503599627370496 < 9007199254740992
     m-hi = omega arith
 
-    k-hi : exponentField binary64 b - 897 ≤ 253
+    k-hi : exponent_field binary64 b - 897 ≤ 253
     k-hi = omega arith
 
-    v : HasValue (of_bits binary64 b) (sign binary64 b) ((4503599627370496 + b % 4503599627370496) * 2 ^ (exponentField binary64 b - 1)) (2 ^ 1074)
-    v = subst (λ z. HasValue z (sign binary64 b) ((4503599627370496 + b % 4503599627370496) * 2 ^ (exponentField binary64 b - 1)) (2 ^ 1074)) (sym (pattern-is binary64 b (sign binary64 b) (exponentField binary64 b) (b % 4503599627370496) refl refl refl)) (fields binary64 (sign binary64 b) (exponentField binary64 b) (b % 4503599627370496) (omega arith) (omega arith))
+    v : HasValue (of_bits binary64 b) (sign binary64 b) ((4503599627370496 + b % 4503599627370496) * 2 ^ (exponent_field binary64 b - 1)) (2 ^ 1074)
+    v = subst (λ z. HasValue z (sign binary64 b) ((4503599627370496 + b % 4503599627370496) * 2 ^ (exponent_field binary64 b - 1)) (2 ^ 1074)) (sym (pattern-is binary64 b (sign binary64 b) (exponent_field binary64 b) (b % 4503599627370496) refl refl refl)) (fields binary64 (sign binary64 b) (exponent_field binary64 b) (b % 4503599627370496) (omega arith) (omega arith))
 
     sums : (j : ℕ) → 897 ≤ j → j - 1 + 178 ≡ j - 897 + 1074
     sums j h = omega arith
 
-    powers : 2 ^ (exponentField binary64 b - 1) * (unit * 2 ^ 149) ≡ 2 ^ (exponentField binary64 b - 897) * 2 ^ 1074
-    powers = sym (pow-add 2 (exponentField binary64 b - 1) 178) ∙ ap (λ z. 2 ^ z) (sums (exponentField binary64 b) lo) ∙ pow-add 2 (exponentField binary64 b - 897) 1074
+    powers : 2 ^ (exponent_field binary64 b - 1) * (unit * 2 ^ 149) ≡ 2 ^ (exponent_field binary64 b - 897) * 2 ^ 1074
+    powers = sym (pow-add 2 (exponent_field binary64 b - 1) 178) ∙ ap (λ z. 2 ^ z) (sums (exponent_field binary64 b) lo) ∙ pow-add 2 (exponent_field binary64 b - 897) 1074
 
     scaled : round binary32 s (m * 2 ^ (j - 1)) (2 ^ 1074) ≡ round binary32 s (m * 2 ^ k) (unit * 2 ^ 149)
     scaled = round_same binary32 s (m * 2 ^ (j - 1)) (2 ^ 1074) (m * 2 ^ k) (unit * 2 ^ 149) (pow_pos 1074) (pow_pos 178) (mul_assoc m (2 ^ (j - 1)) (unit * 2 ^ 149) ∙ ap (λ z. m * z) powers ∙ sym (mul_assoc m (2 ^ k) (2 ^ 1074)))
 
-    rest-is : b % 9223372036854775808 - 4035225266123964416 ≡ (exponentField binary64 b - 897) * 4503599627370496 + (4503599627370496 + b % 4503599627370496)
+    rest-is : b % 9223372036854775808 - 4035225266123964416 ≡ (exponent_field binary64 b - 897) * 4503599627370496 + (4503599627370496 + b % 4503599627370496)
     rest-is = omega arith
 
-    c-is : narrowBits b ≡ cond (leb 9223372036854775808 b) 2147483648 0 + (k * 8388608 + closest m unit)
+    c-is : narrow_bits b ≡ cond (leb 9223372036854775808 b) 2147483648 0 + (k * 8388608 + closest m unit)
     c-is = ap (λ z. cond (leb 9223372036854775808 b) 2147483648 0 + closest z unit) rest-is ∙ ap (λ z. cond (leb 9223372036854775808 b) 2147483648 0 + z) (closest-shift k m)
 
 -- ---- the code's steps
 no_nan : (x : Float) → T (not (is_nan x)) → ne x x ≡ true → ⊥
 no_nan x n h = subst (λ b. T (not b)) (sym (differs x) ∙ h) n
 
-pub with-sign : (b r : ℕ) → 9223372036854775808 ≤ b → r ≡ closest (b % 9223372036854775808 - 4035225266123964416) unit → 2147483648 + r ≡ narrowBits b
-unfolding narrowBits
+pub with-sign : (b r : ℕ) → 9223372036854775808 ≤ b → r ≡ closest (b % 9223372036854775808 - 4035225266123964416) unit → 2147483648 + r ≡ narrow_bits b
+unfolding narrow_bits
 with-sign b r h e = ap (λ z. 2147483648 + z) e ∙ sym (ap (λ t. cond t 2147483648 0 + closest (b % 9223372036854775808 - 4035225266123964416) unit) (is_true (leb 9223372036854775808 b) (le→leb 9223372036854775808 b h)))
 
-pub without_sign : (b r : ℕ) → b < 9223372036854775808 → r ≡ closest (b % 9223372036854775808 - 4035225266123964416) unit → r ≡ narrowBits b
-unfolding narrowBits
+pub without_sign : (b r : ℕ) → b < 9223372036854775808 → r ≡ closest (b % 9223372036854775808 - 4035225266123964416) unit → r ≡ narrow_bits b
+unfolding narrow_bits
 without_sign b r h e =
     e ∙ sym (native.Mathlib.Nat.zero-add (closest (b % 9223372036854775808 - 4035225266123964416) unit))
     ∙ sym (ap (λ t. cond t 2147483648 0 + closest (b % 9223372036854775808 - 4035225266123964416) unit) (is_false (leb 9223372036854775808 b) (lib.Arith.lt→nleb 9223372036854775808 b h)))
 
-pub signed-joined : (b r : ℕ) → b < 18446744073709551616 → r ≡ closest (b % 9223372036854775808 - 4035225266123964416) unit → b / 9223372036854775808 * 2147483648 + r ≡ narrowBits b
+pub signed-joined : (b r : ℕ) → b < 18446744073709551616 → r ≡ closest (b % 9223372036854775808 - 4035225266123964416) unit → b / 9223372036854775808 * 2147483648 + r ≡ narrow_bits b
 signed-joined b r h e = go (ltb b 9223372036854775808) (ltb→lt b 9223372036854775808) (nltb→le b 9223372036854775808)
   where
-    go : (t : Bool) → (T t → b < 9223372036854775808) → (T (not t) → 9223372036854775808 ≤ b) → b / 9223372036854775808 * 2147483648 + r ≡ narrowBits b
+    go : (t : Bool) → (T t → b < 9223372036854775808) → (T (not t) → 9223372036854775808 ≤ b) → b / 9223372036854775808 * 2147483648 + r ≡ narrow_bits b
     go true f g = let l = f tt in let z : b / 9223372036854775808 * 2147483648 + r ≡ r = omega arith in z ∙ without_sign b r l e
     go false f g = let l = g tt in let z : b / 9223372036854775808 * 2147483648 + r ≡ 2147483648 + r = omega arith in z ∙ with-sign b r l e
 
@@ -263,7 +263,7 @@ nan-word (inf s) h = absurd (no_nan (inf s) tt h)
 nan-word (fin s m e) h = absurd (no_nan (fin s m e) tt h)
 
 -- the pattern of the nearest f32
-pub narrow-joined : (x : Float) (c : ℕ) → T (fits binary64 x) → T (not (is_nan x)) → 897 ≤ exponentField binary64 (to_bits binary64 x) → exponentField binary64 (to_bits binary64 x) ≤ 1150 → c < 4294967296 → c ≡ narrowBits (to_bits binary64 x) → c ≡ to_bits binary32 (round_to_format binary32 x)
+pub narrow-joined : (x : Float) (c : ℕ) → T (fits binary64 x) → T (not (is_nan x)) → 897 ≤ exponent_field binary64 (to_bits binary64 x) → exponent_field binary64 (to_bits binary64 x) ≤ 1150 → c < 4294967296 → c ≡ narrow_bits (to_bits binary64 x) → c ≡ to_bits binary32 (round_to_format binary32 x)
 narrow-joined x c h n lo hi l C =
     let e : of_bits binary32 c ≡ round_to_format binary32 x = ap (of_bits binary32) C ∙ narrow-pattern (to_bits binary64 x) lo hi ∙ ap (round_to_format binary32) (of_bits-to_bits binary64 x h) in
     sym (to_bits-of_bits binary32 c l (subst (λ z. T (not (is_nan z))) (sym e) (nearest-number binary32 x n))) ∙ ap (to_bits binary32) e

@@ -7,7 +7,7 @@ use lib.Ieee.Back.{whole_unique}
 use lib.Ieee.Bits.{of_bits-fits}
 use lib.Ieee.Fits.{round-fits, down_pos}
 use Rattle.std.specs.Float.{float_round, round_with, ratio_round_half_up}
-use Rattle.rounding.specs.Round.{exponentField, sign_bit, cut_at, roundBits}
+use Rattle.rounding.specs.Round.{exponent_field, sign_bit, cut_at, round_bits}
 use Rattle.exact.proofs.Away.{Parts, fits-parts, away-exact}
 use Rattle.rounding.proofs.Fields.{fields, fields-zero, sign, pattern-is, Placed, digits_lt, lead-lt, lead-ge, twice_hid, field_top, zero-placed, one_placed, split, reaches, stays, carries}
 use Rattle.rounding.proofs.Half.{half-same, half-none, half-one, half-all, half-by, bounds, moved-is}
@@ -54,7 +54,7 @@ same_whole f b c s a q h e v =
 at_fields : (f : Format) (b c : ℕ) (j t a : ℕ) → Placed f b c j t → HasValue (of_fields f (sign f b) j t) (sign f b) a (2 ^ low f) → HasValue (of_bits f c) (sign f b) a (2 ^ low f)
 at_fields f b c j t a P h = subst (λ z. HasValue z (sign f b) a (2 ^ low f)) (sym (pattern-is f c (sign f b) j t P.same P.field P.digits)) h
 
-here : (f : Format) (b j : ℕ) → exponentField f b ≡ j → Placed f b b j (b % hid f)
+here : (f : Format) (b j : ℕ) → exponent_field f b ≡ j → Placed f b b j (b % hid f)
 here f b j e = record { same = refl; field = e; digits = refl }
 
 -- ---- powers
@@ -95,10 +95,10 @@ under-half f s (suc j) t h k =
     let l = low_field f j h in
     ((hid f + t) * 2 ^ (suc j - 1), fields f s (suc j) t (zero-lt-suc j) l.0, half-none ((hid f + t) * 2 ^ (suc j - 1)) (2 ^ low f) (double-pow f (hid f + t) (suc j - 1) (low f) (lead-lt f t k) l.1))
 
-round-low : (f : Format) (b : ℕ) → b < 2 * top f → exponentField f b < emax f - 1 → of_bits f (sign_bit f b) ≡ float_round f (of_bits f b)
+round-low : (f : Format) (b : ℕ) → b < 2 * top f → exponent_field f b < emax f - 1 → of_bits f (sign_bit f b) ≡ float_round f (of_bits f b)
 round-low f b B h =
     let s = sign f b in
-    let j = exponentField f b in
+    let j = exponent_field f b in
     let u = under-half f s j (b % hid f) h (digits_lt f b) in
     same_whole f b (sign_bit f b) s u.0 0 (at_fields f b b j (b % hid f) u.0 (here f b j refl) u.1) u.2
     (value-whole (of_bits f (sign_bit f b)) s (0 * 2 ^ 0) (2 ^ low f) 0 (pow_pos (low f)) (nothing (2 ^ low f)) (at_fields f b (sign_bit f b) 0 0 (0 * 2 ^ 0) (zero-placed f b B) (fields-zero f s 0)))
@@ -120,7 +120,7 @@ middle : (f : Format) → Middle f
 middle binary32 = record { some = lit< tt; inside = lit< tt; one = lit< tt; one_in = lit< tt; above = lit≤ tt; under = lit≤ tt; unit = refl }
 middle binary64 = record { some = lit< tt; inside = lit< tt; one = lit< tt; one_in = lit< tt; above = lit≤ tt; under = lit≤ tt; unit = refl }
 
-round-one : (f : Format) (b : ℕ) → b < 2 * top f → exponentField f b ≡ emax f - 1 → of_bits f (sign_bit f b + emax f * hid f) ≡ float_round f (of_bits f b)
+round-one : (f : Format) (b : ℕ) → b < 2 * top f → exponent_field f b ≡ emax f - 1 → of_bits f (sign_bit f b + emax f * hid f) ≡ float_round f (of_bits f b)
 round-one f b B h =
     let s = sign f b in
     let t = b % hid f in
@@ -149,14 +149,14 @@ high-field : (f : Format) (j : ℕ) → suc (low f) ≤ j → (0 < j) × (j - 1 
 high-field binary32 j h = (omega arith, omega arith)
 high-field binary64 j h = (omega arith, omega arith)
 
-round-high : (f : Format) (b : ℕ) → suc (low f) ≤ exponentField f b → of_bits f b ≡ float_round f (of_bits f b)
-round-high f b h = go (ltb (exponentField f b) (ones f)) (ltb→lt (exponentField f b) (ones f)) (nltb→le (exponentField f b) (ones f))
+round-high : (f : Format) (b : ℕ) → suc (low f) ≤ exponent_field f b → of_bits f b ≡ float_round f (of_bits f b)
+round-high f b h = go (ltb (exponent_field f b) (ones f)) (ltb→lt (exponent_field f b) (ones f)) (nltb→le (exponent_field f b) (ones f))
   where
-    go : (c : Bool) → (T c → exponentField f b < ones f) → (T (not c) → ones f ≤ exponentField f b) → of_bits f b ≡ float_round f (of_bits f b)
+    go : (c : Bool) → (T c → exponent_field f b < ones f) → (T (not c) → ones f ≤ exponent_field f b) → of_bits f b ≡ float_round f (of_bits f b)
     go true l g =
         let s = sign f b in
         let t = b % hid f in
-        let j = exponentField f b in
+        let j = exponent_field f b in
         let m = hid f + t in
         let k = j - 1 in
         let q = m * 2 ^ (k - low f) in
@@ -173,15 +173,15 @@ record Exponents (f : Format) (j : ℕ) : Type 0 where
   pub some : 0 < j
   pub inside : j < ones f
   pub more : 0 < j + 1
-  pub more-in : j + 1 < ones f
+  pub more_in : j + 1 < ones f
   pub step : suc (low f) - j ≡ suc (low f - j)
   pub whole : suc (low f) - j + (j - emax f) ≡ prec f - 1
   pub all : j - 1 + (suc (low f) - j) ≡ low f
   pub next : j + 1 - 1 ≡ suc (j - 1)
 
 exponents : (f : Format) (j : ℕ) → emax f ≤ j → j < suc (low f) → Exponents f j
-exponents binary32 j J K = record { some = omega arith; inside = omega arith; more = omega arith; more-in = omega arith; step = omega arith; whole = omega arith; all = omega arith; next = omega arith }
-exponents binary64 j J K = record { some = omega arith; inside = omega arith; more = omega arith; more-in = omega arith; step = omega arith; whole = omega arith; all = omega arith; next = omega arith }
+exponents binary32 j J K = record { some = omega arith; inside = omega arith; more = omega arith; more_in = omega arith; step = omega arith; whole = omega arith; all = omega arith; next = omega arith }
+exponents binary64 j J K = record { some = omega arith; inside = omega arith; more = omega arith; more_in = omega arith; step = omega arith; whole = omega arith; all = omega arith; next = omega arith }
 
 two-hid : (f : Format) → hid f * 2 ≡ 2 ^ prec f
 two-hid binary32 = refl
@@ -195,47 +195,47 @@ lead-none : (f : Format) (p : ℕ) → (hid f + 0) * (p * 2) ≡ 2 ^ prec f * p
 lead-none binary32 p = omega arith
 lead-none binary64 p = omega arith
 
-round-mid : (f : Format) (b : ℕ) → b < 2 * top f → emax f ≤ exponentField f b → exponentField f b < suc (low f) → of_bits f (cut_at b (2 ^ (suc (low f) - exponentField f b))) ≡ float_round f (of_bits f b)
+round-mid : (f : Format) (b : ℕ) → b < 2 * top f → emax f ≤ exponent_field f b → exponent_field f b < suc (low f) → of_bits f (cut_at b (2 ^ (suc (low f) - exponent_field f b))) ≡ float_round f (of_bits f b)
 round-mid f b B J K = go (ltb r (2 ^ prec f)) (ltb→lt r (2 ^ prec f)) (nltb→le r (2 ^ prec f))
   where
     j : ℕ
-    j = exponentField f b
+    j = exponent_field f b
 
-    X : Exponents f (exponentField f b)
-    X = exponents f (exponentField f b) J K
+    X : Exponents f (exponent_field f b)
+    X = exponents f (exponent_field f b) J K
 
     u : ℕ
-    u = 2 ^ (suc (low f) - exponentField f b)
+    u = 2 ^ (suc (low f) - exponent_field f b)
 
     h : ℕ
-    h = 2 ^ (low f - exponentField f b)
+    h = 2 ^ (low f - exponent_field f b)
 
     w : ℕ
-    w = 2 ^ (exponentField f b - emax f)
+    w = 2 ^ (exponent_field f b - emax f)
 
     m : ℕ
     m = hid f + b % hid f
 
     p : ℕ
-    p = 2 ^ (exponentField f b - 1)
+    p = 2 ^ (exponent_field f b - 1)
 
     uh : u ≡ h * 2
-    uh = ap (λ z. 2 ^ z) X.step ∙ pow-suc 2 (low f - exponentField f b)
+    uh = ap (λ z. 2 ^ z) X.step ∙ pow-suc 2 (low f - exponent_field f b)
 
     H : 0 < h
-    H = pow_pos (low f - exponentField f b)
+    H = pow_pos (low f - exponent_field f b)
 
     U : 0 < u
-    U = pow_pos (suc (low f) - exponentField f b)
+    U = pow_pos (suc (low f) - exponent_field f b)
 
     hu : u / 2 ≡ h
     hu = ap (λ z. z / 2) uh ∙ mul-div_cancel h (zero-lt-suc 1)
 
     uw : u * w ≡ hid f
-    uw = sym (pow-add 2 (suc (low f) - exponentField f b) (exponentField f b - emax f)) ∙ ap (λ z. 2 ^ z) X.whole
+    uw = sym (pow-add 2 (suc (low f) - exponent_field f b) (exponent_field f b - emax f)) ∙ ap (λ z. 2 ^ z) X.whole
 
     pu : p * u ≡ 2 ^ low f
-    pu = sym (pow-add 2 (exponentField f b - 1) (suc (low f) - exponentField f b)) ∙ ap (λ z. 2 ^ z) X.all
+    pu = sym (pow-add 2 (exponent_field f b - 1) (suc (low f) - exponent_field f b)) ∙ ap (λ z. 2 ^ z) X.all
 
     q : ℕ
     q = (m + h) / u
@@ -247,7 +247,7 @@ round-mid f b B J K = go (ltb r (2 ^ prec f)) (ltb→lt r (2 ^ prec f)) (nltb→
     c = cut_at b u
 
     v : HasValue (of_bits f b) (sign f b) (m * p) (2 ^ low f)
-    v = at_fields f b b (exponentField f b) (b % hid f) (m * p) (here f b (exponentField f b) refl) (fields f (sign f b) (exponentField f b) (b % hid f) X.some X.inside)
+    v = at_fields f b b (exponent_field f b) (b % hid f) (m * p) (here f b (exponent_field f b) refl) (fields f (sign f b) (exponent_field f b) (b % hid f) X.some X.inside)
 
     half : ratio_round_half_up (m * p) (2 ^ low f) ≡ q
     half = half-same (m * p) (2 ^ low f) m u (pow_pos (low f)) U (mul_assoc m p u ∙ ap (λ z. m * z) pu) ∙ ap (λ z. ratio_round_half_up m z) uh ∙ half-by m h H ∙ ap (λ z. (m + h) / z) (sym uh)
@@ -269,45 +269,45 @@ round-mid f b B J K = go (ltb r (2 ^ prec f)) (ltb→lt r (2 ^ prec f)) (nltb→
 
     go : (z : Bool) → (T z → r < 2 ^ prec f) → (T (not z) → 2 ^ prec f ≤ r) → of_bits f c ≡ float_round f (of_bits f b)
     go true l g =
-        done (exponentField f b) (r - hid f) ((hid f + (r - hid f)) * p) (stays f b r B J bs.0 (l tt) c ci) (ap (λ z. z * p) (lead-back f r bs.0) ∙ value)
-        (fields f (sign f b) (exponentField f b) (r - hid f) X.some X.inside)
+        done (exponent_field f b) (r - hid f) ((hid f + (r - hid f)) * p) (stays f b r B J bs.0 (l tt) c ci) (ap (λ z. z * p) (lead-back f r bs.0) ∙ value)
+        (fields f (sign f b) (exponent_field f b) (r - hid f) X.some X.inside)
     go false l g =
         let e : r ≡ 2 ^ prec f = le_antisymm (le_trans bs.1 (le_of_eq (two-hid f))) (g tt) in
-        done (exponentField f b + 1) 0 ((hid f + 0) * 2 ^ (exponentField f b + 1 - 1)) (carries f b B J K c (ci ∙ ap (λ z. (b / hid f - 1) * hid f + z) e))
-        (ap (λ z. (hid f + 0) * 2 ^ z) X.next ∙ ap (λ z. (hid f + 0) * z) (pow-suc 2 (exponentField f b - 1)) ∙ lead-none f p ∙ ap (λ z. z * p) (sym e) ∙ value)
-        (fields f (sign f b) (exponentField f b + 1) 0 X.more X.more-in)
+        done (exponent_field f b + 1) 0 ((hid f + 0) * 2 ^ (exponent_field f b + 1 - 1)) (carries f b B J K c (ci ∙ ap (λ z. (b / hid f - 1) * hid f + z) e))
+        (ap (λ z. (hid f + 0) * 2 ^ z) X.next ∙ ap (λ z. (hid f + 0) * z) (pow-suc 2 (exponent_field f b - 1)) ∙ lead-none f p ∙ ap (λ z. z * p) (sym e) ∙ value)
+        (fields f (sign f b) (exponent_field f b + 1) 0 X.more X.more_in)
 
 -- ---- all
 less_one : (f : Format) (j : ℕ) → j < emax f → emax f - 1 ≤ j → j ≡ emax f - 1
 less_one binary32 j h k = omega arith
 less_one binary64 j h k = omega arith
 
-pub round-bits : (f : Format) (b : ℕ) → b < 2 * top f → of_bits f (roundBits f b) ≡ float_round f (of_bits f b)
-unfolding roundBits
+pub round-bits : (f : Format) (b : ℕ) → b < 2 * top f → of_bits f (round_bits f b) ≡ float_round f (of_bits f b)
+unfolding round_bits
 round-bits f b B = go1 (ltb j (emax f - 1)) (ltb→lt j (emax f - 1)) (nltb→le j (emax f - 1))
   where
     j : ℕ
-    j = exponentField f b
+    j = exponent_field f b
 
     mid : ℕ
-    mid = cut_at b (2 ^ (suc (low f) - exponentField f b))
+    mid = cut_at b (2 ^ (suc (low f) - exponent_field f b))
 
     R : Float
     R = float_round f (of_bits f b)
 
-    go3 : (t : Bool) → (T t → exponentField f b < suc (low f)) → (T (not t) → suc (low f) ≤ exponentField f b) → emax f ≤ exponentField f b → of_bits f (cond t mid b) ≡ R
+    go3 : (t : Bool) → (T t → exponent_field f b < suc (low f)) → (T (not t) → suc (low f) ≤ exponent_field f b) → emax f ≤ exponent_field f b → of_bits f (cond t mid b) ≡ R
     go3 true g h l = round-mid f b B l (g tt)
     go3 false g h l = round-high f b (h tt)
 
-    go2 : (t : Bool) → (T t → exponentField f b < emax f) → (T (not t) → emax f ≤ exponentField f b) → emax f - 1 ≤ exponentField f b → of_bits f (cond t (sign_bit f b + emax f * hid f) (cond (ltb j (suc (low f))) mid b)) ≡ R
-    go2 true g h l = round-one f b B (less_one f (exponentField f b) (g tt) l)
+    go2 : (t : Bool) → (T t → exponent_field f b < emax f) → (T (not t) → emax f ≤ exponent_field f b) → emax f - 1 ≤ exponent_field f b → of_bits f (cond t (sign_bit f b + emax f * hid f) (cond (ltb j (suc (low f))) mid b)) ≡ R
+    go2 true g h l = round-one f b B (less_one f (exponent_field f b) (g tt) l)
     go2 false g h l = go3 (ltb j (suc (low f))) (ltb→lt j (suc (low f))) (nltb→le j (suc (low f))) (h tt)
 
-    go1 : (t : Bool) → (T t → exponentField f b < emax f - 1) → (T (not t) → emax f - 1 ≤ exponentField f b) → of_bits f (cond t (sign_bit f b) (cond (ltb j (emax f)) (sign_bit f b + emax f * hid f) (cond (ltb j (suc (low f))) mid b))) ≡ R
+    go1 : (t : Bool) → (T t → exponent_field f b < emax f - 1) → (T (not t) → emax f - 1 ≤ exponent_field f b) → of_bits f (cond t (sign_bit f b) (cond (ltb j (emax f)) (sign_bit f b + emax f * hid f) (cond (ltb j (suc (low f))) mid b))) ≡ R
     go1 true g h = round-low f b B (g tt)
     go1 false g h = go2 (ltb j (emax f)) (ltb→lt j (emax f)) (nltb→le j (emax f)) (h tt)
 
-pub round-joined : (f : Format) (x r : Float) (b c : ℕ) → T (fits f x) → b ≡ lib.Ieee.to_bits f x → c ≡ roundBits f b → r ≡ of_bits f c → r ≡ float_round f x
+pub round-joined : (f : Format) (x r : Float) (b c : ℕ) → T (fits f x) → b ≡ lib.Ieee.to_bits f x → c ≡ round_bits f b → r ≡ of_bits f c → r ≡ float_round f x
 round-joined f x r b c h B C R =
     let L : b < 2 * top f = subst (λ z. z < 2 * top f) (sym B) (lib.Ieee.Bits.to_bits-lt f x h) in
     R ∙ ap (λ z. of_bits f z) C ∙ round-bits f b L ∙ ap (λ z. float_round f (of_bits f z)) B ∙ ap (λ z. float_round f z) (lib.Ieee.Bits.of_bits-to_bits f x h)

@@ -3,7 +3,7 @@ use Rattle.std.proofs.Common.{◌≡◌, ℕ, zero, suc, ◌+◌, ◌-◌, ◌*�
 use lib.Ieee.{Float, Format, binary32, binary64, nan, inf, fin, prec, low, hid, ones, top, odd, of_fields, of_bits, to_bits, fits, is_nan}
 use lib.Ieee.Bits.{of_bits-to_bits, to_bits-lt}
 use Rattle.std.specs.Float.{is_sign_negative, float_with_sign}
-use Rattle.rounding.specs.Round.{exponentField}
+use Rattle.rounding.specs.Round.{exponent_field}
 use Rattle.rounding.proofs.Fields.{sign, sign_same, pattern-is}
 
 -- ---- fields with another sign
@@ -40,8 +40,8 @@ fields-sign f s (suc j) d n = go (eqb (suc j) (ones f)) (eqb d 0) n
 -- ---- the sign of a float is its pattern's first bit
 pub bits-sign : (f : Format) (b : ℕ) → T (not (is_nan (of_bits f b))) → is_sign_negative (of_bits f b) ≡ sign f b
 bits-sign f b n =
-    let x = pattern-is f b (sign f b) (exponentField f b) (b % hid f) refl refl refl in
-    ap is_sign_negative x ∙ fields-sign f (sign f b) (exponentField f b) (b % hid f) (subst (λ z. T (not (is_nan z))) x n)
+    let x = pattern-is f b (sign f b) (exponent_field f b) (b % hid f) refl refl refl in
+    ap is_sign_negative x ∙ fields-sign f (sign f b) (exponent_field f b) (b % hid f) (subst (λ z. T (not (is_nan z))) x n)
 
 nan-sign : (f : Format) → is_sign_negative nan ≡ sign f (to_bits f nan)
 unfolding is_sign_negative sign to_bits
@@ -68,10 +68,10 @@ test-is f x b h e = ap (leb (top f)) e ∙ sym (sign-is f x h)
 pub copied : (f : Format) (a b c : ℕ) → a < 2 * top f → b < 2 * top f → c ≡ a % top f + (b - b % top f) → of_bits f c ≡ float_with_sign (sign f b) (of_bits f a)
 copied f a b c A B e =
     let p = placed f a b c A B e in
-    pattern-is f c (sign f b) (exponentField f a) (a % hid f) p.0 p.1 p.2
-    ∙ sym (ap (float_with_sign (sign f b)) (pattern-is f a (sign f a) (exponentField f a) (a % hid f) refl refl refl) ∙ fields-with f (sign f a) (sign f b) (exponentField f a) (a % hid f))
+    pattern-is f c (sign f b) (exponent_field f a) (a % hid f) p.0 p.1 p.2
+    ∙ sym (ap (float_with_sign (sign f b)) (pattern-is f a (sign f a) (exponent_field f a) (a % hid f) refl refl refl) ∙ fields-with f (sign f a) (sign f b) (exponent_field f a) (a % hid f))
   where
-    placed : (f : Format) (a b c : ℕ) → a < 2 * top f → b < 2 * top f → c ≡ a % top f + (b - b % top f) → (sign f c ≡ sign f b) × (exponentField f c ≡ exponentField f a) × (c % hid f ≡ a % hid f)
+    placed : (f : Format) (a b c : ℕ) → a < 2 * top f → b < 2 * top f → c ≡ a % top f + (b - b % top f) → (sign f c ≡ sign f b) × (exponent_field f c ≡ exponent_field f a) × (c % hid f ≡ a % hid f)
     placed binary32 a b c A B e = (sign_same binary32 b c (λ l. omega arith) (λ l. omega arith), omega arith, omega arith)
     placed binary64 a b c A B e = (sign_same binary64 b c (λ l. omega arith) (λ l. omega arith), omega arith, omega arith)
 

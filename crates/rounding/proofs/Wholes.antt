@@ -6,8 +6,8 @@ use lib.Dec.{nleb→lt}
 use lib.Count.{under, count_trailing_zeros, trailing_le}
 use lib.Ieee.{Float, binary32, nan, inf, fin, odd, of_fields, of_bits, to_bits, fits}
 use lib.Ieee.Bits.{of_bits-to_bits}
-use Rattle.rounding.specs.Round.{exponentField}
-use Rattle.rounding.specs.Bits.{wholeBits, oddBits, is_whole, isOdd}
+use Rattle.rounding.specs.Round.{exponent_field}
+use Rattle.rounding.specs.Bits.{whole_bits, odd_bits, is_whole, is_odd}
 use Rattle.rounding.proofs.Fields.{sign, pattern-is}
 
 -- ---- zeros at the end
@@ -63,7 +63,7 @@ whole-at s m o A B false = ne_eqb (m * 1 % 2 ^ suc B) 0 (λ e. clash e)
         let w = 2 ^ suc B in
         even-rest m (m * 1 / w * 2 ^ B) 0 o (parted (m * 1 / w) (2 ^ B) (m * 1 % w) (sym (div-add-mod (m * 1) w) ∙ ap (λ z. z * (m * 1 / w) + m * 1 % w) (pow-suc 2 B)) e)
 
-odd-at : (s : Bool) (m : ℕ) → m % 2 ≡ 1 → (A B : ℕ) (c : Bool) → isOdd (fin s m (cond c (pos A) (negsuc B))) ≡ cond c (eqb A 0) false
+odd-at : (s : Bool) (m : ℕ) → m % 2 ≡ 1 → (A B : ℕ) (c : Bool) → is_odd (fin s m (cond c (pos A) (negsuc B))) ≡ cond c (eqb A 0) false
 odd-at s m o zero B true = eq-eqb (m * 1 % 2) 1 (ap (λ z. z % 2) (native.Mathlib.Nat.mul-one m) ∙ o)
 odd-at s m o (suc A) B true = ne_eqb (m * 2 ^ suc A % 2) 1 (λ e. even (2 ^ A) (sym (ap (λ z. m * z % 2) (pow-suc 2 A)) ∙ e)) ∙ sym (ne_eqb (suc A) 0 (λ e. omega arith))
   where
@@ -102,7 +102,7 @@ least a l = go (leb l a) (leb→le l a) (nleb→lt l a)
     go true f g = let k = f tt in alike (a - l) 0 a l (λ e. omega arith) (λ e. omega arith)
     go false f g = let k = g tt in sym (ne_eqb a l (λ e. omega arith))
 
-odd-odd : (d : ℕ) (s : Bool) (q k l : ℕ) → 0 < q → q < 2 ^ d → isOdd (odd d s q k l) ≡ eqb (k + count_trailing_zeros d q) l
+odd-odd : (d : ℕ) (s : Bool) (q k l : ℕ) → 0 < q → q < 2 ^ d → is_odd (odd d s q k l) ≡ eqb (k + count_trailing_zeros d q) l
 unfolding odd
 odd-odd d s zero k l h g = absurd (omega arith)
 odd-odd d s (suc q) k l h g =
@@ -110,8 +110,8 @@ odd-odd d s (suc q) k l h g =
     odd-at s (suc q / 2 ^ t) (odd-left d (suc q) h g) (k + t - l) (l - suc (k + t)) (leb l (k + t)) ∙ least (k + t) l
 
 -- ---- a pattern's fields
-leb-suc : (a b c d : ℕ) → (a ≤ b → c ≤ d) → (c ≤ d → a ≤ b) → leb a b ≡ leb c d
-leb-suc a b c d f g = go (leb c d) (leb→le c d) (nleb→lt c d)
+leb_suc : (a b c d : ℕ) → (a ≤ b → c ≤ d) → (c ≤ d → a ≤ b) → leb a b ≡ leb c d
+leb_suc a b c d f g = go (leb c d) (leb→le c d) (nleb→lt c d)
   where
     go : (t : Bool) → (T t → c ≤ d) → (T (not t) → d < c) → leb a b ≡ t
     go true h k = le-leb a b (g (h tt))
@@ -143,35 +143,35 @@ fields-whole s zero t h k p =
     let l = low-place t in
     lt-leb 150 (place 0 t) (omega arith) ∙ sym (odd-whole 24 s t 0 149 (omega arith) (omega arith) ∙ lt-leb 149 (0 + count_trailing_zeros 24 t) (omega arith))
 fields-whole s (suc j) t h k p =
-    ap (leb 150) (ends j t k) ∙ leb-suc 150 (suc (j + count_trailing_zeros 24 (8388608 + t))) 149 (j + count_trailing_zeros 24 (8388608 + t)) (λ e. omega arith) (λ e. omega arith)
+    ap (leb 150) (ends j t k) ∙ leb_suc 150 (suc (j + count_trailing_zeros 24 (8388608 + t))) 149 (j + count_trailing_zeros 24 (8388608 + t)) (λ e. omega arith) (λ e. omega arith)
     ∙ sym (ap is_whole (normal s j t h) ∙ odd-whole 24 s (8388608 + t) j 149 (omega arith) (omega arith))
 
-special-odd : (s : Bool) (t : ℕ) → isOdd (of_fields binary32 s 255 t) ≡ false
+special-odd : (s : Bool) (t : ℕ) → is_odd (of_fields binary32 s 255 t) ≡ false
 unfolding of_fields
 special-odd s t = go (eqb t 0)
   where
-    go : (c : Bool) → isOdd (cond c (inf s) nan) ≡ false
+    go : (c : Bool) → is_odd (cond c (inf s) nan) ≡ false
     go true = refl
     go false = refl
 
-low-odd : (s : Bool) (t : ℕ) → t < 8388608 → isOdd (odd 24 s t 0 149) ≡ false
+low-odd : (s : Bool) (t : ℕ) → t < 8388608 → is_odd (odd 24 s t 0 149) ≡ false
 unfolding odd
 low-odd s zero h = refl
 low-odd s (suc t) h = let e = trailing_le 24 (suc t) in odd-odd 24 s (suc t) 0 149 (omega arith) (omega arith) ∙ ne_eqb (0 + count_trailing_zeros 24 (suc t)) 149 (λ z. omega arith)
 
-fields-odd : (s : Bool) (j t : ℕ) → j < 256 → t < 8388608 → eqb (place j t) 150 ≡ isOdd (of_fields binary32 s j t)
+fields-odd : (s : Bool) (j t : ℕ) → j < 256 → t < 8388608 → eqb (place j t) 150 ≡ is_odd (of_fields binary32 s j t)
 unfolding of_fields
 fields-odd s zero t h k = let l = low-place t in ne_eqb (place 0 t) 150 (λ e. omega arith) ∙ sym (low-odd s t k)
 fields-odd s (suc j) t h k = go (ltb (suc j) 255) (lib.Dec.ltb→lt (suc j) 255) (lib.Dec.nltb→le (suc j) 255)
   where
-    go : (c : Bool) → (T c → suc j < 255) → (T (not c) → 255 ≤ suc j) → eqb (place (suc j) t) 150 ≡ isOdd (of_fields binary32 s (suc j) t)
+    go : (c : Bool) → (T c → suc j < 255) → (T (not c) → 255 ≤ suc j) → eqb (place (suc j) t) 150 ≡ is_odd (of_fields binary32 s (suc j) t)
     go true f g =
         ap (λ z. eqb z 150) (ends j t k) ∙ alike (suc (j + count_trailing_zeros 24 (8388608 + t))) 150 (j + count_trailing_zeros 24 (8388608 + t)) 149 (λ e. omega arith) (λ e. omega arith)
-        ∙ sym (ap isOdd (normal s j t (f tt)) ∙ odd-odd 24 s (8388608 + t) j 149 (omega arith) (omega arith))
+        ∙ sym (ap is_odd (normal s j t (f tt)) ∙ odd-odd 24 s (8388608 + t) j 149 (omega arith) (omega arith))
     go false f g =
         let l = g tt in
         let e : 255 ≡ suc j = omega arith in
-        ne_eqb (place (suc j) t) 150 (λ z. large z l) ∙ sym (special-odd s t) ∙ ap (λ z. isOdd (of_fields binary32 s z t)) e
+        ne_eqb (place (suc j) t) 150 (λ z. large z l) ∙ sym (special-odd s t) ∙ ap (λ z. is_odd (of_fields binary32 s z t)) e
       where
         large : place (suc j) t ≡ 150 → 255 ≤ suc j → ⊥
         large z l = let w = ends j t k in omega arith
@@ -181,17 +181,17 @@ module _ (x : Float) (h : T (fits binary32 x)) where
   x-is : of_bits binary32 (to_bits binary32 x) ≡ x
   x-is = of_bits-to_bits binary32 x h
 
-  by-fields : x ≡ of_fields binary32 (sign binary32 (to_bits binary32 x)) (exponentField binary32 (to_bits binary32 x)) (to_bits binary32 x % 8388608)
-  by-fields = sym x-is ∙ pattern-is binary32 (to_bits binary32 x) (sign binary32 (to_bits binary32 x)) (exponentField binary32 (to_bits binary32 x)) (to_bits binary32 x % 8388608) refl refl refl
+  by-fields : x ≡ of_fields binary32 (sign binary32 (to_bits binary32 x)) (exponent_field binary32 (to_bits binary32 x)) (to_bits binary32 x % 8388608)
+  by-fields = sym x-is ∙ pattern-is binary32 (to_bits binary32 x) (sign binary32 (to_bits binary32 x)) (exponent_field binary32 (to_bits binary32 x)) (to_bits binary32 x % 8388608) refl refl refl
 
-  pub odd-means : oddBits x ≡ isOdd x
+  pub odd-means : odd_bits x ≡ is_odd x
   unfolding place
   odd-means =
-      fields-odd (sign binary32 (to_bits binary32 x)) (exponentField binary32 (to_bits binary32 x)) (to_bits binary32 x % 8388608) (omega arith) (omega arith)
-      ∙ sym (ap isOdd by-fields)
+      fields-odd (sign binary32 (to_bits binary32 x)) (exponent_field binary32 (to_bits binary32 x)) (to_bits binary32 x % 8388608) (omega arith) (omega arith)
+      ∙ sym (ap is_odd by-fields)
 
-  pub whole-means : 0 < to_bits binary32 x % 2 ^ 31 → to_bits binary32 x % 2 ^ 31 < 2139095040 → wholeBits x ≡ is_whole x
+  pub whole-means : 0 < to_bits binary32 x % 2 ^ 31 → to_bits binary32 x % 2 ^ 31 < 2139095040 → whole_bits x ≡ is_whole x
   unfolding place
   whole-means p q =
-      fields-whole (sign binary32 (to_bits binary32 x)) (exponentField binary32 (to_bits binary32 x)) (to_bits binary32 x % 8388608) (omega arith) (omega arith) (omega arith)
+      fields-whole (sign binary32 (to_bits binary32 x)) (exponent_field binary32 (to_bits binary32 x)) (to_bits binary32 x % 8388608) (omega arith) (omega arith) (omega arith)
       ∙ sym (ap is_whole by-fields)

@@ -4,8 +4,8 @@ use Rattle.std.specs.Float.{Format}
 use Rattle.std.specs.Float.Ieee.{emax, low, hid, top}
 
 -- the exponent's field of a pattern
-abbrev pub exponentField : Format → ℕ → ℕ
-exponentField f b = b % top f / hid f
+abbrev pub exponent_field : Format → ℕ → ℕ
+exponent_field f b = b % top f / hid f
 
 -- the sign's bit in its place
 abbrev pub sign_bit : Format → ℕ → ℕ
@@ -16,9 +16,9 @@ abbrev pub cut_at : ℕ → ℕ → ℕ
 cut_at b u = (b + u / 2) / u * u
 
 -- below 1 / 2: zero; below 1: one; with digits after the point: cut at 1; else as it is
-unfoldable pub roundBits : Format → ℕ → ℕ
-roundBits f b =
-    cond (nat_lt (exponentField f b) (emax f - 1)) (sign_bit f b)
-    (cond (nat_lt (exponentField f b) (emax f)) (sign_bit f b + emax f * hid f)
-    (cond (nat_lt (exponentField f b) (suc (low f))) (cut_at b (2 ^ (suc (low f) - exponentField f b)))
+unfoldable pub round_bits : Format → ℕ → ℕ
+round_bits f b =
+    cond (nat_lt (exponent_field f b) (emax f - 1)) (sign_bit f b)
+    (cond (nat_lt (exponent_field f b) (emax f)) (sign_bit f b + emax f * hid f)
+    (cond (nat_lt (exponent_field f b) (suc (low f))) (cut_at b (2 ^ (suc (low f) - exponent_field f b)))
     b))

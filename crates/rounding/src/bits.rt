@@ -1,6 +1,6 @@
 ghost use Rattle.std.specs.Prelude.{◌≡◌, ◌%◌, ◌^◌, ◌<◌, pos, to_bits};
 ghost use Rattle.std.specs.Float.{is_sign_negative, float_with_sign, binary32, binary64};
-ghost use Rattle.rounding.specs.Bits.{field_of, exponentOf, mantissaOf, wholeBits, oddBits, lastPlace, is_whole, isOdd};
+ghost use Rattle.rounding.specs.Bits.{field_of, exponent_of, mantissa_of, whole_bits, odd_bits, last_place, is_whole, is_odd};
 
 use std::num::{
     f32_from_bits_with_nan, f32_to_bits_with_nan, f64_from_bits_with_nan, f64_to_bits_with_nan,
@@ -39,7 +39,7 @@ pub fn copysignk(x: f64, y: f64) -> f64
 
 // The exponent, by its field.
 pub fn get_exponent_f32(x: f32) -> i32
-    ensures { result ≡ exponentOf binary32 x }
+    ensures { result ≡ exponent_of binary32 x }
 {
     let bits = f32_to_bits_with_nan(x);
     (bits % SIGN_F32 >> 23) as i32 - 127
@@ -55,21 +55,21 @@ pub fn biased_exponent_f64(x: f64) -> i64
 
 // The exponent, by its field.
 pub fn get_exponent_f64(x: f64) -> i64
-    ensures { result ≡ exponentOf binary64 x }
+    ensures { result ≡ exponent_of binary64 x }
 {
     biased_exponent_f64(x) - 1023
 }
 
 // The digits below the leading one.
 pub fn mantissa_f64(x: f64) -> u64
-    ensures { result ≡ mantissaOf binary64 x }
+    ensures { result ≡ mantissa_of binary64 x }
 {
     f64_to_bits_with_nan(x) % (1 << 52)
 }
 
 // The exponent's field and the zeros that end the significand.
 fn last_place(x: f32) -> u32
-    ensures { result ≡ lastPlace x }
+    ensures { result ≡ last_place x }
 {
     let x_u = f32_to_bits_with_nan(x);
     let x_e = x_u % SIGN_F32 >> 23;
@@ -79,7 +79,7 @@ fn last_place(x: f32) -> u32
 
 // Whether x has no digit after the point. Zero does not count, an infinity and the NaN do.
 pub fn is_integerf(x: f32) -> bool
-    ensures is { result ≡ wholeBits x }
+    ensures is { result ≡ whole_bits x }
     ensures means { 0 < to_bits binary32 x % 2 ^ 31 → to_bits binary32 x % 2 ^ 31 < 2139095040 → result ≡ is_whole x }
 {
     last_place(x) >= UNIT_EXPONENT
@@ -87,8 +87,8 @@ pub fn is_integerf(x: f32) -> bool
 
 // Whether x is an odd whole number.
 pub fn is_odd_integerf(x: f32) -> bool
-    ensures is { result ≡ oddBits x }
-    ensures means { result ≡ isOdd x }
+    ensures is { result ≡ odd_bits x }
+    ensures means { result ≡ is_odd x }
 {
     last_place(x) == UNIT_EXPONENT
 }

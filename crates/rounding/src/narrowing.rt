@@ -1,8 +1,8 @@
 ghost use Rattle.std.specs.Prelude.{◌≡◌, ◌^◌, ◌<◌, ◌≤◌, to_bits};
 ghost use Rattle.std.specs.Float.Ieee.Nearest.{closest};
 ghost use Rattle.std.specs.Float.{round_to_format, binary32, binary64};
-ghost use Rattle.rounding.specs.Round.{exponentField};
-ghost use Rattle.rounding.specs.Narrowing.{narrowBits};
+ghost use Rattle.rounding.specs.Round.{exponent_field};
+ghost use Rattle.rounding.specs.Narrowing.{narrow_bits};
 
 use std::num::{f32_from_bits_with_nan, f32_to_bits_with_nan, nearest_f64_to_f32_with_nan};
 
@@ -25,8 +25,8 @@ fn nearest_even(n: u64) -> u64
 
 // The pattern of the nearest f32, where that is a normal one or an infinity.
 fn narrow_bits(i: u64) -> u32
-    requires { (897 ≤ exponentField binary64 i) × (exponentField binary64 i ≤ 1150) }
-    ensures { result ≡ narrowBits i }
+    requires { (897 ≤ exponent_field binary64 i) × (exponent_field binary64 i ≤ 1150) }
+    ensures { result ≡ narrow_bits i }
 {
     let rest = nearest_even(i % SIGN - BIAS);
     (i / SIGN * 0x8000_0000 + rest) as u32

@@ -1,7 +1,7 @@
 ghost use Rattle.std.specs.Prelude.{◌≡◌};
 ghost use Rattle.std.specs.Float.Ieee.{to_signed};
 ghost use Rattle.std.specs.Float.{float_round, binary32, binary64};
-ghost use Rattle.rounding.specs.Round.{roundBits};
+ghost use Rattle.rounding.specs.Round.{round_bits};
 
 use std::num::{
     f32_from_bits_with_nan, f32_to_bits_with_nan, f64_from_bits_with_nan, f64_to_bits_with_nan,
@@ -10,7 +10,7 @@ use std::num::{
 
 // The pattern of the whole number nearest to the f64 of the pattern i0, halves away from zero.
 fn round_bits(i0: u64) -> u64
-    ensures { result ≡ roundBits binary64 i0 }
+    ensures { result ≡ round_bits binary64 i0 }
 {
     let size = i0 % 0x8000_0000_0000_0000;
     let sign = i0 - size;
@@ -29,7 +29,7 @@ fn round_bits(i0: u64) -> u64
 
 // The same for an f32.
 fn roundf_bits(i0: u32) -> u32
-    ensures { result ≡ roundBits binary32 i0 }
+    ensures { result ≡ round_bits binary32 i0 }
 {
     let size = i0 % 0x8000_0000;
     let sign = i0 - size;

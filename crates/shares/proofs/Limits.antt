@@ -7,12 +7,12 @@ use lib.Ieee.Fits.{mul-fits}
 use Rattle.std.specs.Float.{round_to_format, float_round}
 use Rattle.exact.specs.Fraction.{Fraction, ◌≈◌, ◌⊑◌, ◌⊕◌, ◌⊗◌, whole, frac, tiny, Size, Within, leq}
 use Rattle.exact.specs.Value.{value_of, integer, Held, Good}
-use Rattle.exact.specs.Rounded.{errorOf}
-use Rattle.exact.proofs.Order.{by-test, tiny-pos, whole-⊑, ⊗-mono-right, ≈-refl, ≈-sym, ⊑_refl, ⊑_trans, ⊕-mono, ⊗-mono, ⊗-comm, size-⊑, size-≈, size-⊗, size-near, triangle, within-⊑, within-≈, within-mul-right}
+use Rattle.exact.specs.Rounded.{error_of}
+use Rattle.exact.proofs.Order.{by-test, tiny-pos, whole-⊑, ⊗-mono_right, ≈-refl, ≈-sym, ⊑_refl, ⊑_trans, ⊕-mono, ⊗-mono, ⊗-comm, size-⊑, size-≈, size-⊗, size-near, triangle, within-⊑, within-≈, within-mul-right}
 use Rattle.exact.proofs.Rounding.{rounded-near, mul-rounded}
 use Rattle.exact.proofs.Narrow.{narrow32}
 use Rattle.exact.proofs.Away.{away, cast-exact}
-use Rattle.circle.specs.Circle.{step, exactSine, exactCosine, Steady-alike}
+use Rattle.circle.specs.Circle.{step, exact_sine, exact_cosine, SteadyAlike}
 use Rattle.circle.proofs.Circle.{step-nonneg}
 use Rattle.circle.proofs.Turn.{one-step}
 use Rattle.circle.proofs.Mirror.{alike-sine, alike-cosine, sine-at-most-one, cosine-at-most-one}
@@ -20,9 +20,9 @@ use Rattle.forms.specs.Meaning.{good-near}
 use Rattle.forms.specs.Floats.{promise64, promise32}
 use Rattle.table.proofs.Text.{sine-near, cosine-near}
 use Rattle.readers.specs.Meaning.{Steps, Reading, Answers, Keeps}
-use Rattle.shares.specs.Needle.{needleOf, Points}
+use Rattle.shares.specs.Needle.{needle_of, Points}
 use Rattle.table.specs.Sines.{sine64, cosine64}
-use Rattle.shares.specs.Share.{sine32, cosine32, share_of, Read, sineShare, cosineShare, Share-near, Needle-near}
+use Rattle.shares.specs.Share.{sine32, cosine32, share_of, Read, sine_share, cosine_share, ShareNear, NeedleNear}
 
 -- ---- from k + y to u
 -- what the reader's error costs
@@ -35,9 +35,9 @@ nonneg-cost = by-test tt
 
 cost-le : (g : ℕ) → g ≤ 2 ^ 20 → (whole g ⊗ tiny 60) ⊗ step ⊕ tiny 70 ⊑ cost
 cost-le g h =
-    ⊕-mono (⊑_trans (⊗-mono step step-nonneg (⊗-mono (tiny 60) (tiny-pos 60) (whole-⊑ h))) (⊗-mono-right (whole (2 ^ 20) ⊗ tiny 60) nonneg-cost one-step)) (⊑_refl (tiny 70))
+    ⊕-mono (⊑_trans (⊗-mono step step-nonneg (⊗-mono (tiny 60) (tiny-pos 60) (whole-⊑ h))) (⊗-mono_right (whole (2 ^ 20) ⊗ tiny 60) nonneg-cost one-step)) (⊑_refl (tiny 70))
 
-module _ (f : Fraction → Fraction) (steady : Steady-alike f) (y : Float) (k : ℕ) (u : Fraction) (g : ℕ) (r : Read y k u g) where
+module _ (f : Fraction → Fraction) (steady : SteadyAlike f) (y : Float) (k : ℕ) (u : Fraction) (g : ℕ) (r : Read y k u g) where
   pub arrived : (v e : Fraction) → Within v (f (whole k ⊕ value_of y)) e → Within v (f u) (e ⊕ cost)
   arrived v e a =
       triangle a (within-⊑ (cost-le g r.small) (steady (whole k ⊕ value_of y) u (whole g ⊗ tiny 60) r.near))
@@ -70,7 +70,7 @@ module _ (x : Float) (v : Fraction) (one : Size v (whole 1)) (g : Good x v (tiny
   unfolding leq
   narrow_size = size-⊑ (by-test tt) (size-near narrow.near one)
 
-  times-scale : Good (mul binary64 (round_to_format binary32 x) scale) (v ⊗ whole (2 ^ 30)) (errorOf binary64 (whole 2 ⊗ whole (2 ^ 30)) ⊕ (tiny 25 ⊕ tiny 41) ⊗ whole (2 ^ 30))
+  times-scale : Good (mul binary64 (round_to_format binary32 x) scale) (v ⊗ whole (2 ^ 30)) (error_of binary64 (whole 2 ⊗ whole (2 ^ 30)) ⊕ (tiny 25 ⊕ tiny 41) ⊗ whole (2 ^ 30))
   unfolding size leq
   times-scale =
       let z = round_to_format binary32 x in
@@ -95,41 +95,41 @@ ease-good h g = record { fin = g.fin; near = within-⊑ h g.near }
 
 -- ---- shares and needle
 module _ (y : Float) (k : ℕ) (l : k < 64) where
-  pub share-sine : Share-near exactSine y k (share_of (sine64 y k))
+  pub share-sine : ShareNear exact_sine y k (share_of (sine64 y k))
   unfolding leq
   share-sine u g r =
-      let a = good-near (sine64 y k) (exactSine (whole k ⊕ value_of y)) (whole 11 ⊗ tiny 47 ⊕ tiny 44) (sine-near promise64 y r.rest k l) in
-      share-within (sine64 y k) (exactSine u) (sine-at-most-one u) (ease-good (by-test tt) (good-arrived exactSine alike-sine y k u g r (sine64 y k) (whole 11 ⊗ tiny 47 ⊕ tiny 44) a))
+      let a = good-near (sine64 y k) (exact_sine (whole k ⊕ value_of y)) (whole 11 ⊗ tiny 47 ⊕ tiny 44) (sine-near promise64 y r.rest k l) in
+      share-within (sine64 y k) (exact_sine u) (sine-at-most-one u) (ease-good (by-test tt) (good-arrived exact_sine alike-sine y k u g r (sine64 y k) (whole 11 ⊗ tiny 47 ⊕ tiny 44) a))
 
-  pub share-cosine : Share-near exactCosine y k (share_of (cosine64 y k))
+  pub share-cosine : ShareNear exact_cosine y k (share_of (cosine64 y k))
   unfolding leq
   share-cosine u g r =
-      let a = good-near (cosine64 y k) (exactCosine (whole k ⊕ value_of y)) (whole 11 ⊗ tiny 47 ⊕ tiny 44) (cosine-near promise64 y r.rest k l) in
-      share-within (cosine64 y k) (exactCosine u) (cosine-at-most-one u) (ease-good (by-test tt) (good-arrived exactCosine alike-cosine y k u g r (cosine64 y k) (whole 11 ⊗ tiny 47 ⊕ tiny 44) a))
+      let a = good-near (cosine64 y k) (exact_cosine (whole k ⊕ value_of y)) (whole 11 ⊗ tiny 47 ⊕ tiny 44) (cosine-near promise64 y r.rest k l) in
+      share-within (cosine64 y k) (exact_cosine u) (cosine-at-most-one u) (ease-good (by-test tt) (good-arrived exact_cosine alike-cosine y k u g r (cosine64 y k) (whole 11 ⊗ tiny 47 ⊕ tiny 44) a))
 
-  pub needle-sine : Needle-near exactSine y k (sine32 y k)
+  pub needle_sine : NeedleNear exact_sine y k (sine32 y k)
   unfolding leq
-  needle-sine u g r =
-      let a = good-near (sine32 y k) (exactSine (whole k ⊕ value_of y)) (whole 11 ⊗ tiny 18 ⊕ tiny 44) (sine-near promise32 y r.rest k l) in
-      ease-good (by-test tt) (good-arrived exactSine alike-sine y k u g r (sine32 y k) (whole 11 ⊗ tiny 18 ⊕ tiny 44) a)
+  needle_sine u g r =
+      let a = good-near (sine32 y k) (exact_sine (whole k ⊕ value_of y)) (whole 11 ⊗ tiny 18 ⊕ tiny 44) (sine-near promise32 y r.rest k l) in
+      ease-good (by-test tt) (good-arrived exact_sine alike-sine y k u g r (sine32 y k) (whole 11 ⊗ tiny 18 ⊕ tiny 44) a)
 
-  pub needle-cosine : Needle-near exactCosine y k (cosine32 y k)
+  pub needle_cosine : NeedleNear exact_cosine y k (cosine32 y k)
   unfolding leq
-  needle-cosine u g r =
-      let a = good-near (cosine32 y k) (exactCosine (whole k ⊕ value_of y)) (whole 11 ⊗ tiny 18 ⊕ tiny 44) (cosine-near promise32 y r.rest k l) in
-      ease-good (by-test tt) (good-arrived exactCosine alike-cosine y k u g r (cosine32 y k) (whole 11 ⊗ tiny 18 ⊕ tiny 44) a)
+  needle_cosine u g r =
+      let a = good-near (cosine32 y k) (exact_cosine (whole k ⊕ value_of y)) (whole 11 ⊗ tiny 18 ⊕ tiny 44) (cosine-near promise32 y r.rest k l) in
+      ease-good (by-test tt) (good-arrived exact_cosine alike-cosine y k u g r (cosine32 y k) (whole 11 ⊗ tiny 18 ⊕ tiny 44) a)
 
 -- what a reader that keeps its promise answers
 pub answers-read : {u : Fraction} {k : ℕ} {y : Float} → Answers u k y → Read y k u 1024
 unfolding leq
 answers-read a = record { rest = a.rest; small = lit≤ tt; near = record { more = a.near.more; less = a.near.less; near = within-⊑ (by-test tt) a.near.near } }
 
-pub points : (o : Steps) (a : Reading) → Keeps o a → Points o (needleOf a)
-unfolding needleOf
+pub points : (o : Steps) (a : Reading) → Keeps o a → Points o (needle_of a)
+unfolding needle_of
 points None (Ok a) k = k
 points None (Err e) k = tt
 points (Some u) (Err e) k = k
 points (Some u) (Ok a) k =
     let m : a.0 % 64 ≡ a.0 = mod-eq_of_lt k.step in
     let r = answers-read k in
-    rw m (needle-sine a.1 a.0 k.step u 1024 r, needle-cosine a.1 a.0 k.step u 1024 r)
+    rw m (needle_sine a.1 a.0 k.step u 1024 r, needle_cosine a.1 a.0 k.step u 1024 r)

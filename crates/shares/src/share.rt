@@ -1,7 +1,7 @@
 // The shares of a heading: its sine and cosine times 2^30, as whole numbers.
 ghost use Rattle.std.specs.Prelude.{◌≡◌, ◌%◌};
-ghost use Rattle.circle.specs.Circle.{exactSine, exactCosine};
-ghost use Rattle.shares.specs.Share.{share_of, sineShare, cosineShare, Share-near};
+ghost use Rattle.circle.specs.Circle.{exact_sine, exact_cosine};
+ghost use Rattle.shares.specs.Share.{share_of, sine_share, cosine_share, ShareNear};
 
 use rounding::{narrow, round};
 use std::num::{f32_to_f64_with_nan, saturating_f64_to_i32};
@@ -23,10 +23,10 @@ pub fn share(x: f64) -> i32
 
 // The shares of k + y steps, whole turns of 64 aside.
 pub fn shares_of(k: u8, y: f64) -> Shares
-    ensures sine_is { result.sine ≡ sineShare k y }
-    ensures cosine_is { result.cosine ≡ cosineShare k y }
-    ensures sine_near { Share-near exactSine y (k % 64) result.sine }
-    ensures cosine_near { Share-near exactCosine y (k % 64) result.cosine }
+    ensures sine_is { result.sine ≡ sine_share k y }
+    ensures cosine_is { result.cosine ≡ cosine_share k y }
+    ensures sine_near { ShareNear exact_sine y (k % 64) result.sine }
+    ensures cosine_near { ShareNear exact_cosine y (k % 64) result.cosine }
 {
     let (sine, cosine) = sine_and_cosine::<f64>(y, k);
     Shares {

@@ -13,8 +13,8 @@ use Rattle.sheets.specs.declared.book.Entry.{Entry}
 use Rattle.sheets.specs.declared.book.Call.{Call}
 use Rattle.sheets.specs.declared.book.Call.TheVariants.{Enter, Correct, Withdraw, RowOf, RowAt, Count, Totals}
 use Rattle.sheets.specs.Rows.{samples, among}
-use Rattle.sheets.specs.Book.{mayEnter, mayCorrect, mayWithdraw, mayPlace, asked, allowed, given}
-use Rattle.sheets.specs.Sheets.{InAnyOrder, rowFor, corrected, without}
+use Rattle.sheets.specs.Book.{may_enter, may_correct, may_withdraw, may_place, asked, allowed, given}
+use Rattle.sheets.specs.Sheets.{InAnyOrder, row_for, corrected, without}
 use Rattle.sheets.specs.Runs.{filled, Grown}
 use Rattle.sheets.proofs.Orders.{kept-by-order, among-order}
 use Rattle.sheets.proofs.Sums.{length-order}
@@ -26,26 +26,26 @@ filled-samples answer (e ∷ book) = ap (λ l. e.sample ∷ l) (filled-samples a
 pub samples-order : (answer : ℕ → Reading) (rows : List Row) (book : List Entry) → InAnyOrder rows (map (filled answer) book) → InAnyOrder (samples rows) (given book)
 samples-order answer rows book o = subst (InAnyOrder (samples rows)) (filled-samples answer book) (Permᴰ.map (λ (r : Row). r.sample) o)
 
-enter-alike : (o : Steps) (s : ℕ) {xs ys : List ℕ} → InAnyOrder xs ys → mayEnter o xs s ≡ mayEnter o ys s
+enter-alike : (o : Steps) (s : ℕ) {xs ys : List ℕ} → InAnyOrder xs ys → may_enter o xs s ≡ may_enter o ys s
 enter-alike None s p = refl
 enter-alike (Some u) s {xs} {ys} p = ap (λ t. cond t (Err Taken) (cond (ltb (length xs) 256) (Ok tt) (Err Full))) (among-order s p) ∙ ap (λ n. cond (among s ys) (Err Taken) (cond (ltb n 256) (Ok tt) (Err Full))) (length-order p)
 
-correct-alike : (o : Steps) (s : ℕ) {xs ys : List ℕ} → InAnyOrder xs ys → mayCorrect o xs s ≡ mayCorrect o ys s
-correct-alike None s p = refl
-correct-alike (Some u) s p = ap (λ t. cond t (Ok tt) (Err Absent)) (among-order s p)
+correct_alike : (o : Steps) (s : ℕ) {xs ys : List ℕ} → InAnyOrder xs ys → may_correct o xs s ≡ may_correct o ys s
+correct_alike None s p = refl
+correct_alike (Some u) s p = ap (λ t. cond t (Ok tt) (Err Absent)) (among-order s p)
 
-withdraw-alike : (s : ℕ) {xs ys : List ℕ} → InAnyOrder xs ys → mayWithdraw xs s ≡ mayWithdraw ys s
-withdraw-alike s p = ap (λ t. cond t (Ok tt) (Err Absent)) (among-order s p)
+withdraw_alike : (s : ℕ) {xs ys : List ℕ} → InAnyOrder xs ys → may_withdraw xs s ≡ may_withdraw ys s
+withdraw_alike s p = ap (λ t. cond t (Ok tt) (Err Absent)) (among-order s p)
 
-place-alike : (i : ℕ) {xs ys : List ℕ} → InAnyOrder xs ys → mayPlace xs i ≡ mayPlace ys i
+place-alike : (i : ℕ) {xs ys : List ℕ} → InAnyOrder xs ys → may_place xs i ≡ may_place ys i
 place-alike i p = ap (λ n. cond (ltb i n) (Ok tt) (Err NoPlace)) (length-order p)
 
 -- a sheet and its book say the same to every call
 pub asked-alike : (steps : ℕ → Steps) (call : Call) {xs ys : List ℕ} → InAnyOrder xs ys → asked steps xs call ≡ asked steps ys call
 asked-alike steps (Enter e) p = enter-alike (steps e.word) e.sample p
-asked-alike steps (Correct e) p = correct-alike (steps e.word) e.sample p
-asked-alike steps (Withdraw s) p = withdraw-alike s p
-asked-alike steps (RowOf s) p = withdraw-alike s p
+asked-alike steps (Correct e) p = correct_alike (steps e.word) e.sample p
+asked-alike steps (Withdraw s) p = withdraw_alike s p
+asked-alike steps (RowOf s) p = withdraw_alike s p
 asked-alike steps (RowAt i) p = place-alike i p
 asked-alike steps Count p = refl
 asked-alike steps Totals p = refl
@@ -71,8 +71,8 @@ all-replaced P [] s e p h = h
 all-replaced P (f ∷ book) s e p h = (cond_both (eqb f.sample s) e f P (λ _. p) (λ _. h.0), all-replaced P book s e p h.1)
 
 module _ (steps : ℕ → Steps) (answer : ℕ → Reading) (book : List Entry) (rows after : List Row) (r : Result (Unit {0}) SheetFault) where
-  pub enter-grown : (e : Entry) → e.word < 2 ^ 32 → r ≡ mayEnter (steps e.word) (samples rows) e.sample → after ≡ allowed r (rows ++ filled answer e ∷ []) rows → Grown answer book rows
-      → Grown answer (allowed (mayEnter (steps e.word) (given book) e.sample) (book ++ e ∷ []) book) after
+  pub enter-grown : (e : Entry) → e.word < 2 ^ 32 → r ≡ may_enter (steps e.word) (samples rows) e.sample → after ≡ allowed r (rows ++ filled answer e ∷ []) rows → Grown answer book rows
+      → Grown answer (allowed (may_enter (steps e.word) (given book) e.sample) (book ++ e ∷ []) book) after
   enter-grown e fits was is old =
       let go : (q : Result (Unit {0}) SheetFault) → Grown answer (allowed q (book ++ e ∷ []) book) (allowed q (rows ++ filled answer e ∷ []) rows) =
       λ q. elim q as (λ q. Grown answer (allowed q (book ++ e ∷ []) book) (allowed q (rows ++ filled answer e ∷ []) rows)) [
@@ -82,12 +82,12 @@ module _ (steps : ℕ → Steps) (answer : ℕ → Reading) (book : List Entry) 
         }
         | Err f ↦ old
       ] in
-      subst (Grown answer (allowed (mayEnter (steps e.word) (given book) e.sample) (book ++ e ∷ []) book)) (sym is)
+      subst (Grown answer (allowed (may_enter (steps e.word) (given book) e.sample) (book ++ e ∷ []) book)) (sym is)
       (subst (λ q. Grown answer (allowed q (book ++ e ∷ []) book) (allowed r (rows ++ filled answer e ∷ []) rows)) (was ∙ enter-alike (steps e.word) e.sample (samples-order answer rows book old.order)) (go r))
 
-  pub correct-grown : (e : Entry) → e.word < 2 ^ 32 → r ≡ mayCorrect (steps e.word) (samples rows) e.sample → after ≡ allowed r (corrected rows e.sample (filled answer e)) rows → Grown answer book rows
-      → Grown answer (allowed (mayCorrect (steps e.word) (given book) e.sample) (map (λ f. cond (eqb f.sample e.sample) e f) book) book) after
-  correct-grown e fits was is old =
+  pub correct_grown : (e : Entry) → e.word < 2 ^ 32 → r ≡ may_correct (steps e.word) (samples rows) e.sample → after ≡ allowed r (corrected rows e.sample (filled answer e)) rows → Grown answer book rows
+      → Grown answer (allowed (may_correct (steps e.word) (given book) e.sample) (map (λ f. cond (eqb f.sample e.sample) e f) book) book) after
+  correct_grown e fits was is old =
       let fix : List Entry → List Entry = map (λ f. cond (eqb f.sample e.sample) e f) in
       let new : List Row = corrected rows e.sample (filled answer e) in
       let go : (q : Result (Unit {0}) SheetFault) → Grown answer (allowed q (fix book) book) (allowed q new rows) =
@@ -98,12 +98,12 @@ module _ (steps : ℕ → Steps) (answer : ℕ → Reading) (book : List Entry) 
         }
         | Err f ↦ old
       ] in
-      subst (Grown answer (allowed (mayCorrect (steps e.word) (given book) e.sample) (fix book) book)) (sym is)
-      (subst (λ q. Grown answer (allowed q (fix book) book) (allowed r new rows)) (was ∙ correct-alike (steps e.word) e.sample (samples-order answer rows book old.order)) (go r))
+      subst (Grown answer (allowed (may_correct (steps e.word) (given book) e.sample) (fix book) book)) (sym is)
+      (subst (λ q. Grown answer (allowed q (fix book) book) (allowed r new rows)) (was ∙ correct_alike (steps e.word) e.sample (samples-order answer rows book old.order)) (go r))
 
-  pub withdraw-grown : (s : ℕ) → r ≡ mayWithdraw (samples rows) s → InAnyOrder (allowed r (without rows s) rows) after → Grown answer book rows
-      → Grown answer (allowed (mayWithdraw (given book) s) (filter (λ f. not (eqb f.sample s)) book) book) after
-  withdraw-grown s was is old =
+  pub withdraw_grown : (s : ℕ) → r ≡ may_withdraw (samples rows) s → InAnyOrder (allowed r (without rows s) rows) after → Grown answer book rows
+      → Grown answer (allowed (may_withdraw (given book) s) (filter (λ f. not (eqb f.sample s)) book) book) after
+  withdraw_grown s was is old =
       let less : List Entry → List Entry = filter (λ f. not (eqb f.sample s)) in
       let go : (q : Result (Unit {0}) SheetFault) → InAnyOrder (allowed q (without rows s) rows) after → Grown answer (allowed q (less book) book) after =
       λ q. elim q as (λ q. InAnyOrder (allowed q (without rows s) rows) after → Grown answer (allowed q (less book) book) after) [
@@ -113,4 +113,4 @@ module _ (steps : ℕ → Steps) (answer : ℕ → Reading) (book : List Entry) 
         }
         | Err f ↦ λ o. record { order = Permᴰ.trans (Permᴰ.symm o) old.order; words = old.words }
       ] in
-      subst (λ q. Grown answer (allowed q (less book) book) after) (was ∙ withdraw-alike s (samples-order answer rows book old.order)) (go r is)
+      subst (λ q. Grown answer (allowed q (less book) book) after) (was ∙ withdraw_alike s (samples-order answer rows book old.order)) (go r is)

@@ -10,9 +10,9 @@ use Rattle.sheets.specs.declared.fault.SheetFault.{SheetFault}
 use Rattle.sheets.specs.declared.fault.SheetFault.TheVariants.{Taken, Absent, Full, NoPlace}
 use Rattle.sheets.specs.declared.row.Row.{Row}
 use Rattle.sheets.specs.Rows.{samples, among, distinct}
-use Rattle.sheets.specs.Book.{mayEnter, mayCorrect, mayWithdraw, mayPlace}
-use Rattle.sheets.specs.Sheets.{rowFor}
-use Rattle.shares.specs.Share.{sineShare, cosineShare}
+use Rattle.sheets.specs.Book.{may_enter, may_correct, may_withdraw, may_place}
+use Rattle.sheets.specs.Sheets.{row_for}
+use Rattle.shares.specs.Share.{sine_share, cosine_share}
 use Rattle.std.proofs.lemmas.Int.{to_z-of_z}
 use Rattle.sheets.specs.Standing.{Found}
 use Rattle.sheets.proofs.Bools.{found_among, distinct_push}
@@ -29,29 +29,29 @@ pub has_there : (rs : List Row) (r : Row) (s : ℕ) → r.sample ≡ s → Has r
 has_there rs r s e h = there rs s h.0 (record { within = h.1; same = get_or-map (λ (x : Row). x.sample) rs h.0 r 0 h.1 ∙ ap (λ (x : Row). x.sample) (h.2 r) ∙ e })
 
 -- may a row be asked for at a place
-pub placed : (rs : List Row) (i : ℕ) → i < length rs → Ok tt ≡ mayPlace (samples rs) i
+pub placed : (rs : List Row) (i : ℕ) → i < length rs → Ok tt ≡ may_place (samples rs) i
 placed rs i h = sym (cond-true (ltb i (length (samples rs))) _ _ (lt-ltb i (length (samples rs)) (omega (arith, length-map rs (λ (x : Row). x.sample)))))
 
-pub unplaced : (rs : List Row) (i : ℕ) (e : SheetFault) → e ≡ NoPlace → length rs ≤ i → Err e ≡ mayPlace (samples rs) i
+pub unplaced : (rs : List Row) (i : ℕ) (e : SheetFault) → e ≡ NoPlace → length rs ≤ i → Err e ≡ may_place (samples rs) i
 unplaced rs i e p h = ap Err p ∙ sym (cond-false (ltb i (length (samples rs))) _ _ (le-ltb i (length (samples rs)) (omega (arith, length-map rs (λ (x : Row). x.sample)))))
 
-pub taken-if : (o : Option ℕ) (rows : List Row) (s : ℕ) → MatchOption o (among s (samples rows) ≡ false) (λ i. Found s rows i) → is_some o ≡ true → among s (samples rows) ≡ true
-taken-if (Some i) rows s f e = there rows s i f
-taken-if None rows s f e = absurd (let z : ◌≡◌ {A = ℕ} 0 1 = cc in omega arith)
+pub taken_if : (o : Option ℕ) (rows : List Row) (s : ℕ) → MatchOption o (among s (samples rows) ≡ false) (λ i. Found s rows i) → is_some o ≡ true → among s (samples rows) ≡ true
+taken_if (Some i) rows s f e = there rows s i f
+taken_if None rows s f e = absurd (let z : ◌≡◌ {A = ℕ} 0 1 = cc in omega arith)
 
-pub new-if : (o : Option ℕ) (rows : List Row) (s : ℕ) → MatchOption o (among s (samples rows) ≡ false) (λ i. Found s rows i) → is_some o ≡ false → among s (samples rows) ≡ false
-new-if (Some i) rows s f e = absurd (let z : ◌≡◌ {A = ℕ} 0 1 = cc in omega arith)
-new-if None rows s f e = f
+pub new_if : (o : Option ℕ) (rows : List Row) (s : ℕ) → MatchOption o (among s (samples rows) ≡ false) (λ i. Found s rows i) → is_some o ≡ false → among s (samples rows) ≡ false
+new_if (Some i) rows s f e = absurd (let z : ◌≡◌ {A = ℕ} 0 1 = cc in omega arith)
+new_if None rows s f e = f
 
 module _ (o : Steps) (u : Fraction) (angle : o ≡ Some u) (ss : List ℕ) (s : ℕ) where
-  pub enter-taken : among s ss ≡ true → Err Taken ≡ mayEnter o ss s
-  enter-taken h = sym (ap (λ p. mayEnter p ss s) angle ∙ cond-true (among s ss) _ _ h)
+  pub enter-taken : among s ss ≡ true → Err Taken ≡ may_enter o ss s
+  enter-taken h = sym (ap (λ p. may_enter p ss s) angle ∙ cond-true (among s ss) _ _ h)
 
-  pub enter-full : among s ss ≡ false → 256 ≤ length ss → Err Full ≡ mayEnter o ss s
-  enter-full h l = sym (ap (λ p. mayEnter p ss s) angle ∙ cond-false (among s ss) _ _ h ∙ cond-false (ltb (length ss) 256) _ _ (le-ltb (length ss) 256 l))
+  pub enter-full : among s ss ≡ false → 256 ≤ length ss → Err Full ≡ may_enter o ss s
+  enter-full h l = sym (ap (λ p. may_enter p ss s) angle ∙ cond-false (among s ss) _ _ h ∙ cond-false (ltb (length ss) 256) _ _ (le-ltb (length ss) 256 l))
 
-  pub enter-ok : among s ss ≡ false → length ss < 256 → Ok tt ≡ mayEnter o ss s
-  enter-ok h l = sym (ap (λ p. mayEnter p ss s) angle ∙ cond-false (among s ss) _ _ h ∙ cond-true (ltb (length ss) 256) _ _ (lt-ltb (length ss) 256 l))
+  pub enter-ok : among s ss ≡ false → length ss < 256 → Ok tt ≡ may_enter o ss s
+  enter-ok h l = sym (ap (λ p. may_enter p ss s) angle ∙ cond-false (among s ss) _ _ h ∙ cond-true (ltb (length ss) 256) _ _ (lt-ltb (length ss) 256 l))
 
 -- the samples of the first n rows of an array of 256
 pub count-samples : (rows : List Row) (n : ℕ) → n ≤ length rows → length (samples (take n rows)) ≡ n
@@ -60,18 +60,18 @@ count-samples rows n h = length-map (take n rows) (λ r. r.sample) ∙ length-ta
 pub distinct_more : (rows more : List Row) (r : Row) → more ≡ rows ++ r ∷ [] → distinct (samples rows) ≡ true → among r.sample (samples rows) ≡ false → distinct (samples more) ≡ true
 distinct_more rows more r e d a = ap (λ l. distinct (samples l)) e ∙ ap distinct (map_push (λ r. r.sample) rows r) ∙ distinct_push r.sample (samples rows) d a
 
-pub row_made : (a : Reading) (k : ℕ) (y : Float) (s v w : ℕ) (sine cosine : ℤ) → Ok (k, y) ≡ a → sine ≡ sineShare k y → cosine ≡ cosineShare k y → record { sample = s; speed = v; word = w; sine = sine; cosine = cosine } ≡ rowFor a s v w
-row_made a k y s v w sine cosine e p q = ap (λ z. record { sample = s; speed = v; word = w; sine = z; cosine = cosine }) p ∙ ap (λ z. record { sample = s; speed = v; word = w; sine = sineShare k y; cosine = z }) q ∙ ap (λ r. rowFor r s v w) e
+pub row_made : (a : Reading) (k : ℕ) (y : Float) (s v w : ℕ) (sine cosine : ℤ) → Ok (k, y) ≡ a → sine ≡ sine_share k y → cosine ≡ cosine_share k y → record { sample = s; speed = v; word = w; sine = sine; cosine = cosine } ≡ row_for a s v w
+row_made a k y s v w sine cosine e p q = ap (λ z. record { sample = s; speed = v; word = w; sine = z; cosine = cosine }) p ∙ ap (λ z. record { sample = s; speed = v; word = w; sine = sine_share k y; cosine = z }) q ∙ ap (λ r. row_for r s v w) e
 
 -- a signed result to its bits and back
 pub passed : (z v : ℤ) → SFits w32 z → z ≡ v → to_z w32 (of_z w32 z) ≡ v
 passed z v h e = to_z-of_z w32 z h ∙ e
 
-pub correct-ok : (o : Steps) (u : Fraction) (angle : o ≡ Some u) (ss : List ℕ) (s : ℕ) → among s ss ≡ true → Ok tt ≡ mayCorrect o ss s
-correct-ok o u angle ss s h = sym (ap (λ p. mayCorrect p ss s) angle ∙ cond-true (among s ss) _ _ h)
+pub correct_ok : (o : Steps) (u : Fraction) (angle : o ≡ Some u) (ss : List ℕ) (s : ℕ) → among s ss ≡ true → Ok tt ≡ may_correct o ss s
+correct_ok o u angle ss s h = sym (ap (λ p. may_correct p ss s) angle ∙ cond-true (among s ss) _ _ h)
 
-pub withdraw-ok : (ss : List ℕ) (s : ℕ) → among s ss ≡ true → Ok tt ≡ mayWithdraw ss s
-withdraw-ok ss s h = sym (cond-true (among s ss) _ _ h)
+pub withdraw_ok : (ss : List ℕ) (s : ℕ) → among s ss ≡ true → Ok tt ≡ may_withdraw ss s
+withdraw_ok ss s h = sym (cond-true (among s ss) _ _ h)
 
-pub withdraw-absent : (ss : List ℕ) (s : ℕ) → among s ss ≡ false → Err Absent ≡ mayWithdraw ss s
-withdraw-absent ss s h = sym (cond-false (among s ss) _ _ h)
+pub withdraw_absent : (ss : List ℕ) (s : ℕ) → among s ss ≡ false → Err Absent ≡ may_withdraw ss s
+withdraw_absent ss s h = sym (cond-false (among s ss) _ _ h)

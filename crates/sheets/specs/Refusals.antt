@@ -4,9 +4,9 @@ use Rattle.sheets.specs.declared.fault.SheetFault.{SheetFault}
 use Rattle.sheets.specs.declared.fault.SheetFault.TheVariants.{Unread, Taken, Absent, Full, NoPlace}
 
 -- 7: the word has no angle; 8: the sample is not new; 9: it is not there; 10: 256 rows stand; 11: no such place
-abbrev pub sheetNumber : SheetFault → ℕ
-sheetNumber (Unread e) = 7
-sheetNumber Taken = 8
-sheetNumber Absent = 9
-sheetNumber Full = 10
-sheetNumber NoPlace = 11
+abbrev pub sheet_number : SheetFault → ℕ
+sheet_number (Unread e) = 7
+sheet_number Taken = 8
+sheet_number Absent = 9
+sheet_number Full = 10
+sheet_number NoPlace = 11

@@ -17,13 +17,13 @@ distinct [] = true
 distinct (x ∷ xs) = not (among x xs) && distinct xs
 
 -- the sum of the speeds, in cm/s
-abbrev pub speedOf : List Row → ℕ
-speedOf rows = sum_by (λ r. r.speed) rows
+abbrev pub speed_of : List Row → ℕ
+speed_of rows = sum_by (λ r. r.speed) rows
 
 -- the sum of speed × cosine share
-abbrev pub alongOf : List Row → ℤ
-alongOf rows = fold (λ a r. a +ℤ pos r.speed *ℤ r.cosine) (pos 0) rows
+abbrev pub along_of : List Row → ℤ
+along_of rows = fold (λ a r. a +ℤ pos r.speed *ℤ r.cosine) (pos 0) rows
 
 -- the sum of speed × sine share
-abbrev pub acrossOf : List Row → ℤ
-acrossOf rows = fold (λ a r. a +ℤ pos r.speed *ℤ r.sine) (pos 0) rows
+abbrev pub across_of : List Row → ℤ
+across_of rows = fold (λ a r. a +ℤ pos r.speed *ℤ r.sine) (pos 0) rows

@@ -4,11 +4,11 @@ use Rattle.std.specs.List.{AllByRecursion as All}
 use Rattle.readers.specs.Meaning.{Reading}
 use Rattle.sheets.specs.declared.book.Entry.{Entry}
 use Rattle.sheets.specs.declared.row.Row.{Row}
-use Rattle.sheets.specs.Sheets.{InAnyOrder, rowFor}
+use Rattle.sheets.specs.Sheets.{InAnyOrder, row_for}
 
 -- an entry of the book with the shares that the reader's answer gives
 abbrev pub filled : (ℕ → Reading) → Entry → Row
-filled answer e = rowFor (answer e.word) e.sample e.speed e.word
+filled answer e = row_for (answer e.word) e.sample e.speed e.word
 
 -- the sheet's rows are the book's, each with its shares, in any order; every word has 32 bits
 pub record Grown (answer : ℕ → Reading) (book : List Entry) (rows : List Row) : Type 0 where

@@ -2,7 +2,7 @@
 use Rattle.std.specs.Prelude.{ℕ, cond, not, List, map, ℤ, pos, Ok, Err, filter, ◌==◌}
 use mathlib.Core.List.{Permᴰ}
 use Rattle.readers.specs.Meaning.{Reading}
-use Rattle.shares.specs.Share.{sineShare, cosineShare}
+use Rattle.shares.specs.Share.{sine_share, cosine_share}
 use Rattle.sheets.specs.declared.row.Row.{Row}
 use Rattle.sheets.specs.declared.sheet.Sheet.{Sheet}
 use Rattle.sheets.specs.declared.totals.Totals.{Totals}
@@ -17,22 +17,22 @@ abbrev pub rows : {R : Type 0} → Sheet R → List Row
 rows s = standing s.table
 
 -- the totals that a sheet keeps
-abbrev pub totalsOf : {R : Type 0} → Sheet R → Totals
-totalsOf s = s.table.totals
+abbrev pub totals_of : {R : Type 0} → Sheet R → Totals
+totals_of s = s.table.totals
 
 -- the sine share of what a reader answered
-abbrev pub readSine : Reading → ℤ
-readSine (Ok a) = sineShare a.0 a.1
-readSine (Err e) = pos 0
+abbrev pub read_sine : Reading → ℤ
+read_sine (Ok a) = sine_share a.0 a.1
+read_sine (Err e) = pos 0
 
 -- and the cosine share
-abbrev pub readCosine : Reading → ℤ
-readCosine (Ok a) = cosineShare a.0 a.1
-readCosine (Err e) = pos 0
+abbrev pub read_cosine : Reading → ℤ
+read_cosine (Ok a) = cosine_share a.0 a.1
+read_cosine (Err e) = pos 0
 
 -- the row of a sample, speed and word, by what the reader answered to the word
-abbrev pub rowFor : Reading → ℕ → ℕ → ℕ → Row
-rowFor a sample speed word = record { sample = sample; speed = speed; word = word; sine = readSine a; cosine = readCosine a }
+abbrev pub row_for : Reading → ℕ → ℕ → ℕ → Row
+row_for a sample speed word = record { sample = sample; speed = speed; word = word; sine = read_sine a; cosine = read_cosine a }
 
 -- the sample's row replaced
 abbrev pub corrected : List Row → ℕ → Row → List Row

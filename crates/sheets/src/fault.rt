@@ -1,6 +1,6 @@
 ghost use Rattle.std.specs.Prelude.{◌≡◌};
 ghost use Rattle.sheets.specs.declared.fault.SheetFault.TheVariants.{Unread};
-ghost use Rattle.sheets.specs.Refusals.{sheetNumber};
+ghost use Rattle.sheets.specs.Refusals.{sheet_number};
 
 use readers::reader::ReaderFault;
 
@@ -22,7 +22,7 @@ pub enum SheetFault {
 impl SheetFault {
     // Its refusal number.
     pub fn number(self) -> u8
-        ensures { result ≡ sheetNumber self }
+        ensures { result ≡ sheet_number self }
     {
         match self {
             SheetFault::Unread(fault) => fault.number(),

@@ -1,6 +1,6 @@
 pub mod book;
 pub mod fault;
 pub mod row;
+mod row_table;
 pub mod sheet;
-mod table;
 pub mod totals;

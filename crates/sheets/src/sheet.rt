@@ -1,8 +1,8 @@
 ghost use Rattle.std.specs.Prelude.{◌≡◌, ◌≤◌, true};
-ghost use Rattle.sheets.specs.Rows.{samples, distinct, speedOf, alongOf, acrossOf};
+ghost use Rattle.sheets.specs.Rows.{samples, distinct, speed_of, along_of, across_of};
 ghost use Rattle.sheets.specs.Standing.{standing};
 
-use crate::table::Table;
+use crate::row_table::Table;
 use readers::reader::Reader;
 
 pub mod calls;
@@ -14,7 +14,7 @@ pub struct Sheet<R> {
     table: Table,
     ghost within: { table.count ≤ 256 },
     ghost differ: { distinct (samples (standing table)) ≡ true },
-    ghost speed: { table.totals.speed ≡ speedOf (standing table) },
-    ghost along: { table.totals.along ≡ alongOf (standing table) },
-    ghost across: { table.totals.across ≡ acrossOf (standing table) },
+    ghost speed: { table.totals.speed ≡ speed_of (standing table) },
+    ghost along: { table.totals.along ≡ along_of (standing table) },
+    ghost across: { table.totals.across ≡ across_of (standing table) },
 }

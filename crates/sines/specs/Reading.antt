@@ -8,22 +8,22 @@ use Rattle.sines.specs.declared.request.Function.TheVariants.{Sinf, Cosf, Tanf, 
 use Rattle.sines.specs.declared.request.Request.{Request}
 
 -- the value of a hex digit
-abbrev pub digitOf : ℕ → Option ℕ
-digitOf b =
+abbrev pub digit_of : ℕ → Option ℕ
+digit_of b =
     cond (nat_le 48 b && nat_le b 57) (Some (b - 48))
     (cond (nat_le 97 b && nat_le b 102) (Some (b - 97 + 10))
     (cond (nat_le 65 b && nat_le b 70) (Some (b - 65 + 10))
     None))
 
 -- one digit more, if it is one
-abbrev pub digitThen : Option ℕ → (ℕ → Option ℕ) → Option ℕ
-digitThen None f = None
-digitThen (Some d) f = f d
+abbrev pub digit_then : Option ℕ → (ℕ → Option ℕ) → Option ℕ
+digit_then None f = None
+digit_then (Some d) f = f d
 
 -- the number that hex digits write after w
 abbrev pub word_of : ℕ → List ℕ → Option ℕ
 word_of w [] = Some w
-word_of w (b ∷ l) = digitThen (digitOf b) (λ d. word_of (w * 16 + d) l)
+word_of w (b ∷ l) = digit_then (digit_of b) (λ d. word_of (w * 16 + d) l)
 
 -- the name of a function, in bytes
 abbrev pub name_of : Function → List ℕ

@@ -1,5 +1,5 @@
 ghost use Rattle.std.specs.Prelude.{◌≡◌, length};
-ghost use Rattle.sines.specs.Reading.{digitOf, word_of, Named, Read, result_of};
+ghost use Rattle.sines.specs.Reading.{digit_of, word_of, Named, Read, result_of};
 
 use functions::{
     luhvend_cosf, luhvend_cospif, luhvend_sinf, luhvend_sinpif, luhvend_tanf, luhvend_tanpif,
@@ -74,7 +74,7 @@ impl Request {
 
 // The value of a hex digit, in either case.
 fn digit(b: u8) -> Option<u8>
-    ensures { result ≡ digitOf b }
+    ensures { result ≡ digit_of b }
 {
     match b {
         b'0'..=b'9' => Some(b - b'0'),

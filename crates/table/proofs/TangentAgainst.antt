@@ -5,31 +5,31 @@ use lib.Count.{count_trailing_zeros}
 use lib.Ieee.{of_bits, of_fields, odd}
 use Rattle.exact.specs.Fraction.{Fraction, ◌⊗◌, ◌⊖◌, frac, tiny, Size, leq}
 use Rattle.exact.specs.Value.{value_of}
-use Rattle.exact.proofs.Order.{≈-refl, ≈-trans, ⊕-cong, ⊗-cong, neg-cong, size-≈, size→within}
+use Rattle.exact.proofs.Order.{≈-refl, ≈-trans, ⊕-cong, ⊗-cong, neg_cong, size-≈, size→within}
 use Rattle.exact.proofs.Poly.{Expr, var, con, ◌:+◌, ◌:*◌, ◌:-◌, minus, free, Env, same, small, le, hyp, sq, ◌*c◌}
 use Rattle.exact.proofs.Cert.{ring, prove}
 use Rattle.exact.proofs.Bound.{bound}
 use Rattle.circle.specs.Circle.{step}
-use Rattle.circle.proofs.Sines.{nestE, sinE, cosE, sin-is, cos-is}
+use Rattle.circle.proofs.Sines.{nest_e, sin_e, cos_e, sin_is, cos_is}
 use Rattle.table.specs.Tangents.{tan0, tan1, tan2, tan3}
-use Rattle.table.specs.Against.{tanPoly, Tangent-against, Tangent-nearer}
+use Rattle.table.specs.Against.{tan_poly, TangentAgainst, TangentNearer}
 
 abbrev angle : Expr
 angle = var 0 :* con step
 
-abbrev evenE : Expr → Expr
-evenE z = z :* (z :* (z :* con (value_of tan3) :+ con (value_of tan2)) :+ con (value_of tan1)) :+ con (value_of tan0)
+abbrev even_e : Expr → Expr
+even_e z = z :* (z :* (z :* con (value_of tan3) :+ con (value_of tan2)) :+ con (value_of tan1)) :+ con (value_of tan0)
 
-tanPolyE : Expr
-tanPolyE = evenE (var 0 :* var 0) :* var 0
+tan_poly_e : Expr
+tan_poly_e = even_e (var 0 :* var 0) :* var 0
 
 rest : Expr
-rest = tanPolyE :* cosE angle :- sinE angle
+rest = tan_poly_e :* cos_e angle :- sin_e angle
 
 -- with z for y²
 parts : Expr → Expr
-unfolding nestE
-parts z = var 0 :* (evenE z :* nestE 12 0 (z :* (con step :* con step)) :- con step :* nestE 12 1 (z :* (con step :* con step)))
+unfolding nest_e
+parts z = var 0 :* (even_e z :* nest_e 12 0 (z :* (con step :* con step)) :- con step :* nest_e 12 1 (z :* (con step :* con step)))
 
 -- ---- up to 3 / 4
 abbrev wide-one : Fraction → Env
@@ -43,7 +43,7 @@ unfolding small leq parts step of_bits of_fields odd count_trailing_zeros
 wide-small y = tt
 
 wide-same : T (same 1 (parts ((var 0 :* var 0 :- con (frac 9 32)) :+ con (frac 9 32))) rest)
-unfolding same parts rest tanPolyE sinE cosE step of_bits of_fields odd count_trailing_zeros
+unfolding same parts rest tan_poly_e sin_e cos_e step of_bits of_fields odd count_trailing_zeros
 wide-same = tt
 
 wide-cap : (y : Fraction) → Size y (frac 3 4) → Size (y ⊗ y ⊖ frac 9 32) (frac 9 32)
@@ -56,12 +56,12 @@ wide-cap y h =
       above = prove ρ hs (h.above, (h.below, tt)) (minus (con (frac 9 32))) (var 0 :* var 0 :- con (frac 9 32)) (sq (var 0)) tt;
     }
 
-pub tangent-against : Tangent-against
-unfolding parts rest tanPolyE
-tangent-against y h =
+pub tangent_against : TangentAgainst
+unfolding parts rest tan_poly_e
+tangent_against y h =
     let b = bound (wide-two y) (h, (wide-cap y h, tt)) (tiny 40) (parts (var 1 :+ con (frac 9 32))) (wide-small y) in
     let e = ring (wide-one y) (parts ((var 0 :* var 0 :- con (frac 9 32)) :+ con (frac 9 32))) rest wide-same in
-    let r = ⊕-cong (⊗-cong (≈-refl (tanPoly y)) (cos-is (wide-one y) angle)) (neg-cong (sin-is (wide-one y) angle)) in
+    let r = ⊕-cong (⊗-cong (≈-refl (tan_poly y)) (cos_is (wide-one y) angle)) (neg_cong (sin_is (wide-one y) angle)) in
     size→within (size-≈ (≈-trans e r) b)
 
 -- ---- up to 1 / 2
@@ -76,7 +76,7 @@ unfolding small leq parts step of_bits of_fields odd count_trailing_zeros
 close-small y = tt
 
 close-same : T (same 1 (parts ((var 0 :* var 0 :- con (frac 1 8)) :+ con (frac 1 8))) rest)
-unfolding same parts rest tanPolyE sinE cosE step of_bits of_fields odd count_trailing_zeros
+unfolding same parts rest tan_poly_e sin_e cos_e step of_bits of_fields odd count_trailing_zeros
 close-same = tt
 
 close-cap : (y : Fraction) → Size y (frac 1 2) → Size (y ⊗ y ⊖ frac 1 8) (frac 1 8)
@@ -89,10 +89,10 @@ close-cap y h =
       above = prove ρ hs (h.above, (h.below, tt)) (minus (con (frac 1 8))) (var 0 :* var 0 :- con (frac 1 8)) (sq (var 0)) tt;
     }
 
-pub tangent-nearer : Tangent-nearer
-unfolding parts rest tanPolyE
-tangent-nearer y h =
+pub tangent_nearer : TangentNearer
+unfolding parts rest tan_poly_e
+tangent_nearer y h =
     let b = bound (close-two y) (h, (close-cap y h, tt)) (tiny 47) (parts (var 1 :+ con (frac 1 8))) (close-small y) in
     let e = ring (close-one y) (parts ((var 0 :* var 0 :- con (frac 1 8)) :+ con (frac 1 8))) rest close-same in
-    let r = ⊕-cong (⊗-cong (≈-refl (tanPoly y)) (cos-is (close-one y) angle)) (neg-cong (sin-is (close-one y) angle)) in
+    let r = ⊕-cong (⊗-cong (≈-refl (tan_poly y)) (cos_is (close-one y) angle)) (neg_cong (sin_is (close-one y) angle)) in
     size→within (size-≈ (≈-trans e r) b)

@@ -5,12 +5,12 @@ use Rattle.std.specs.Float.Ieee.{of_bits, add, mul, div, neg as negate}
 use Rattle.std.specs.Float.Ieee.Scale.{finite}
 use Rattle.exact.specs.Fraction.{◌⊑◌, ◌⊗◌, neg, whole, frac, tiny, Size, Within}
 use Rattle.exact.specs.Value.{value_of}
-use Rattle.circle.specs.Circle.{exactSine, exactCosine}
+use Rattle.circle.specs.Circle.{exact_sine, exact_cosine}
 use Rattle.forms.specs.Polyeval.{polyeval4}
 
 -- the tangents of 0 to 63 steps, as bits
-unfoldable pub tanTable : List ℕ
-tanTable =
+unfoldable pub tan_table : List ℕ
+tan_table =
     0x0000000000000000 ∷
     0x3fb936bb8c5b2da2 ∷
     0x3fc975f5e0553158 ∷
@@ -77,15 +77,15 @@ tanTable =
     0xbfb936bb8c5b2da2 ∷ []
 
 -- the table's tangent of k steps
-unfoldable pub tableTangent : ℕ → Float
-unfolding tanTable
-tableTangent k = of_bits binary64 (get_or tanTable k 0)
+unfoldable pub table_tangent : ℕ → Float
+unfolding tan_table
+table_tangent k = of_bits binary64 (get_or tan_table k 0)
 
 -- x for the tangent of k steps: at most 41 / 4 in size, and x times the cosine within 2 ^ -48 of the sine; at odd quarter turns, where there is no tangent, -2 ^ 148 or less
 pub record TangentNear (x : Float) (k : ℕ) : Type 0 where
   pub fin : T (finite x)
   pub size : (k % 32 ≡ 16 → ⊥) → Size (value_of x) (frac 41 4)
-  pub near : (k % 32 ≡ 16 → ⊥) → Within (value_of x ⊗ exactCosine (whole k)) (exactSine (whole k)) (tiny 48)
+  pub near : (k % 32 ≡ 16 → ⊥) → Within (value_of x ⊗ exact_cosine (whole k)) (exact_sine (whole k)) (tiny 48)
   pub far : k % 32 ≡ 16 → value_of x ⊑ neg (whole (2 ^ 148))
 
 -- the coefficients of tan (y π / 32) / y in y², up to y⁶ on [0, 0.5]
@@ -106,13 +106,13 @@ abbrev fmla : Float → Float → Float → Float
 fmla a b c = add binary64 (mul binary64 a b) c
 
 -- tan (y π / 32)
-abbrev pub tanY : Float → Float
-tanY y = mul binary64 (polyeval4 fmla (mul binary64 y y) tan0 tan1 tan2 tan3) y
+abbrev pub tan_of_y : Float → Float
+tan_of_y y = mul binary64 (polyeval4 fmla (mul binary64 y y) tan0 tan1 tan2 tan3) y
 
 -- the tangent of the sum: (tan_y + tan_k) / (1 - tan_y tan_k)
-abbrev pub tangentOf : Float → Float → Float
-tangentOf tan-y tan-k = div binary64 (add binary64 tan-y tan-k) (fmla tan-y (negate tan-k) (of_bits binary64 0x3ff0000000000000))
+abbrev pub tangent_of : Float → Float → Float
+tangent_of tan-y tan-k = div binary64 (add binary64 tan-y tan-k) (fmla tan-y (negate tan-k) (of_bits binary64 0x3ff0000000000000))
 
 -- the tangent of k + y steps
 abbrev pub tangent64 : Float → ℕ → Float
-tangent64 y k = tangentOf (tanY y) (tableTangent k)
+tangent64 y k = tangent_of (tan_of_y y) (table_tangent k)

@@ -2,9 +2,9 @@ ghost use Rattle.std.specs.Prelude.{ℕ, ◌%◌, ◌≡◌};
 ghost use Rattle.std.specs.Float.Ieee.{neg};
 ghost use Rattle.exact.specs.Fraction.{whole, frac, tiny, ◌⊕◌, ◌⊗◌};
 ghost use Rattle.exact.specs.Value.{value_of, Good, Held, Near};
-ghost use Rattle.circle.specs.Circle.{exactSine, exactCosine};
-ghost use Rattle.table.specs.Sines.{tableSine, tableCosine, sinY, cosm1Y, sum_of, sineOf, cosineOf};
-ghost use Rattle.table.specs.Against.{Table-sines, Table-cosines, Table-tangents, Sine-against, Cosine-against, Tangent-against, Tangent-nearer};
+ghost use Rattle.circle.specs.Circle.{exact_sine, exact_cosine};
+ghost use Rattle.table.specs.Sines.{table_sine, table_cosine, sin_of_y, cosm1_of_y, sum_of, sine_of, cosine_of};
+ghost use Rattle.table.specs.Against.{TableSines, TableCosines, TableTangents, SineAgainst, CosineAgainst, TangentAgainst, TangentNearer};
 
 use forms::{Form, f_polyeval3, f_polyeval4};
 
@@ -80,21 +80,21 @@ const SIN_K_PI_OVER32: [u64; 64] = [
 
 // The table's sine of k steps, whole turns of 64 aside.
 fn table_sine(k: u8) -> f64
-    ensures is { result ≡ tableSine (k % 64) }
-    ensures near { Good result (exactSine (whole (k % 64))) (tiny 52) }
+    ensures is { result ≡ table_sine (k % 64) }
+    ensures near { Good result (exact_sine (whole (k % 64))) (tiny 52) }
 {
     f64::from_bits(SIN_K_PI_OVER32[(k % 64) as usize])
 }
 
 // The entries of the tables, and the polynomials of the rest y against the series.
 pub fn table_laws() -> u8
-    ensures sines { Table-sines }
-    ensures cosines { Table-cosines }
-    ensures tangents { Table-tangents }
-    ensures sine { Sine-against }
-    ensures cosine { Cosine-against }
-    ensures tangent { Tangent-against }
-    ensures nearer { Tangent-nearer }
+    ensures sines { TableSines }
+    ensures cosines { TableCosines }
+    ensures tangents { TableTangents }
+    ensures sine { SineAgainst }
+    ensures cosine { CosineAgainst }
+    ensures tangent { TangentAgainst }
+    ensures nearer { TangentNearer }
 {
     0
 }
@@ -110,10 +110,10 @@ pub struct SinCosf<T> {
 
 // The table text: the parts of the sine and the cosine of k + y steps.
 pub fn sincosf_eval<T: Form>(y: f64, k: u8) -> SinCosf<T>
-    ensures sin_k { result.sin_k ≡ T.Form.made (tableSine (k % 64)) }
-    ensures cos_k { result.cos_k ≡ T.Form.made (tableCosine (k % 64)) }
-    ensures sin_y { result.sin_y ≡ sinY T.Form.mla T.Form.product T.Form.made y }
-    ensures cosm1_y { result.cosm1_y ≡ cosm1Y T.Form.mla T.Form.product T.Form.made y }
+    ensures sin_k { result.sin_k ≡ T.Form.made (table_sine (k % 64)) }
+    ensures cos_k { result.cos_k ≡ T.Form.made (table_cosine (k % 64)) }
+    ensures sin_y { result.sin_y ≡ sin_of_y T.Form.mla T.Form.product T.Form.made y }
+    ensures cosm1_y { result.cosm1_y ≡ cosm1_of_y T.Form.mla T.Form.product T.Form.made y }
 {
     let v = T::make(y);
     let y_sqr = T::multiply(v, v);
@@ -166,10 +166,10 @@ pub fn cosine<T: Form>(p: SinCosf<T>, minus_sin_k: T) -> T
 
 // The sine and the cosine of k + y steps. For -sin_k the table's f64 changes sign before the form makes a value.
 pub fn sine_and_cosine<T: Form>(y: f64, k: u8) -> (T, T)
-    ensures sine_is { result.0 ≡ sineOf T.Form.mla T.Form.product T.Form.made y (k % 64) }
-    ensures cosine_is { result.1 ≡ cosineOf T.Form.mla T.Form.product T.Form.made y (k % 64) }
-    ensures sine_near { Held y (frac 3 4) → Near (T.Form.mean result.0) (exactSine (whole (k % 64) ⊕ value_of y)) (whole 11 ⊗ tiny T.Form.h ⊕ tiny 44) }
-    ensures cosine_near { Held y (frac 3 4) → Near (T.Form.mean result.1) (exactCosine (whole (k % 64) ⊕ value_of y)) (whole 11 ⊗ tiny T.Form.h ⊕ tiny 44) }
+    ensures sine_is { result.0 ≡ sine_of T.Form.mla T.Form.product T.Form.made y (k % 64) }
+    ensures cosine_is { result.1 ≡ cosine_of T.Form.mla T.Form.product T.Form.made y (k % 64) }
+    ensures sine_near { Held y (frac 3 4) → Near (T.Form.mean result.0) (exact_sine (whole (k % 64) ⊕ value_of y)) (whole 11 ⊗ tiny T.Form.h ⊕ tiny 44) }
+    ensures cosine_near { Held y (frac 3 4) → Near (T.Form.mean result.1) (exact_cosine (whole (k % 64) ⊕ value_of y)) (whole 11 ⊗ tiny T.Form.h ⊕ tiny 44) }
 {
     let p = sincosf_eval(y, k);
     let minus_sin_k = T::make(-table_sine(k));

@@ -1,5 +1,5 @@
 ghost use Rattle.std.specs.Prelude.{◌≡◌, ◌%◌, get_or};
-ghost use Rattle.table.specs.Tangents.{tableTangent, tanY, tangentOf, TangentNear};
+ghost use Rattle.table.specs.Tangents.{table_tangent, tan_of_y, tangent_of, TangentNear};
 
 use forms::f_polyeval4;
 use rounding::f_fmla;
@@ -74,7 +74,7 @@ const TAN_K_PI_OVER32: [u64; 64] = [
 
 // The table's tangent of k steps, whole turns of 64 aside.
 fn table_tangent(k: u8) -> f64
-    ensures is { result ≡ tableTangent (k % 64) }
+    ensures is { result ≡ table_tangent (k % 64) }
     ensures near { TangentNear result (k % 64) }
 {
     f64::from_bits(TAN_K_PI_OVER32[(k % 64) as usize])
@@ -89,8 +89,8 @@ pub struct TanfEval {
 
 // The parts of the tangent of k + y steps.
 pub fn tanf_eval(y: f64, k: u8) -> TanfEval
-    ensures tan_k { result.tan_k ≡ tableTangent (k % 64) }
-    ensures tan_y { result.tan_y ≡ tanY y }
+    ensures tan_k { result.tan_k ≡ table_tangent (k % 64) }
+    ensures tan_y { result.tan_y ≡ tan_of_y y }
 {
     let y_sqr = y * y;
     let tan_k = table_tangent(k);
@@ -107,7 +107,7 @@ pub fn tanf_eval(y: f64, k: u8) -> TanfEval
 
 // The tangent of the sum from its parts, in pxfm's order.
 pub fn tangent(p: TanfEval) -> f64
-    ensures { result ≡ tangentOf p.tan_y p.tan_k }
+    ensures { result ≡ tangent_of p.tan_y p.tan_k }
 {
     // num = tan(k*pi/32) + tan(y*pi/32)
     let num = p.tan_y + p.tan_k;

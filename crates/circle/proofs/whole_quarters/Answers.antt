@@ -1,5 +1,5 @@
-use Rattle.circle.proofs.Quarters.{quarter-sines, quarter-cosines}
+use Rattle.circle.proofs.Quarters.{quarter_sines, quarter_cosines}
 use Rattle.circle.proofs.whole_quarters.Goals as goal
 
 pub returns : goal.returns
-returns c = (quarter-sines, quarter-cosines)
+returns c = (quarter_sines, quarter_cosines)

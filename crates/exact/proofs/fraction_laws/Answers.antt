@@ -1,4 +1,4 @@
-use Rattle.exact.proofs.Order.{≈-refl, ≈-sym, ≈-trans, ≈→⊑, ⊑_trans, ⊑-antisym, ⊑-total, ⊕-comm, ⊕-assoc, ⊕-zero, ⊕-neg, ⊕-cong, ⊕-mono, ⊗-comm, ⊗-assoc, ⊗-one, ⊗-cong, ⊗-mono, distrib, neg-cong, neg-mono}
+use Rattle.exact.proofs.Order.{≈-refl, ≈-sym, ≈-trans, ≈→⊑, ⊑_trans, ⊑-antisym, ⊑-total, ⊕-comm, ⊕-assoc, ⊕-zero, ⊕-neg, ⊕-cong, ⊕-mono, ⊗-comm, ⊗-assoc, ⊗-one, ⊗-cong, ⊗-mono, distrib, neg_cong, neg-mono}
 use Rattle.exact.proofs.Order.{triangle, within-⊕, size-⊕, within-⊗, size-⊗, within-mul-right, within-⊑, size-⊑, within-neg, size-neg, within-sym, within-≈, size-≈, size-near, within→size, size→within, abs-size, abs-below}
 use Rattle.exact.proofs.fraction_laws.Goals as goal
 
@@ -6,7 +6,7 @@ pub returns : goal.returns
 returns c =
     record {
       ring = record { add_comm = ⊕-comm; add_assoc = ⊕-assoc; add-zero = ⊕-zero; add-neg = ⊕-neg; mul_comm = ⊗-comm; mul_assoc = ⊗-assoc; mul-one = ⊗-one; distrib = distrib };
-      equality = record { same = ≈-refl; turned = λ a b. ≈-sym; joined = λ a b c. ≈-trans; sums = λ a b c d. ⊕-cong; products = λ a b c d. ⊗-cong; signs = λ a b. neg-cong };
+      equality = record { same = ≈-refl; turned = λ a b. ≈-sym; joined = λ a b c. ≈-trans; sums = λ a b c d. ⊕-cong; products = λ a b c d. ⊗-cong; signs = λ a b. neg_cong };
       order = record { same = λ a b. ≈→⊑; joined = λ a b c. ⊑_trans; both = λ a b. ⊑-antisym; either = ⊑-total; sums = λ a b c d. ⊕-mono; products = λ a b c. ⊗-mono c; signs = λ a b. neg-mono };
       triangle = λ a b c x y. triangle;
       sums = (λ a b c d x y. within-⊕, λ a b c d. size-⊕);

@@ -1,7 +1,7 @@
 use Rattle.readers.specs.Meaning.{Steps}
 use Rattle.exact.specs.Value.{integer}
-use Rattle.sheets.specs.Sheets.{rows, totalsOf}
-use Rattle.sheets.specs.Book.{standingAfter}
+use Rattle.sheets.specs.Sheets.{rows, totals_of}
+use Rattle.sheets.specs.Book.{standing_after}
 use Rattle.std.proofs.Common.{ℕ}
 use Rattle.formulas.proofs.Six.{six}
 use Rattle.law.proofs.Near.{holds}
@@ -16,16 +16,16 @@ returns g c =
     let others = c.args.others.now in
     let one : ℕ → Steps = λ w. g.P.Reader.steps c.args.one w in
     let other : ℕ → Steps = λ w. g.Q.Reader.steps c.args.other w in
-    let h = holds one (g.P.Reader.answer c.args.one) (g.met.P.Reader.meaning c.args.one) calls (rows p) (totalsOf p) c.run-one.ensures.grown p.speed p.along p.across in
-    let k = holds other (g.Q.Reader.answer c.args.other) (g.met.Q.Reader.meaning c.args.other) others (rows q) (totalsOf q) c.run-other.ensures.grown q.speed q.along q.across in
-    let d = book-distinct (rows p) (standingAfter one calls) h.order p.differ in
-    let d' = book-distinct (rows q) (standingAfter other others) k.order q.differ in
+    let h = holds one (g.P.Reader.answer c.args.one) (g.met.P.Reader.meaning c.args.one) calls (rows p) (totals_of p) c.run-one.ensures.grown p.speed p.along p.across in
+    let k = holds other (g.Q.Reader.answer c.args.other) (g.met.Q.Reader.meaning c.args.other) others (rows q) (totals_of q) c.run-other.ensures.grown q.speed q.along q.across in
+    let d = book-distinct (rows p) (standing_after one calls) h.order p.differ in
+    let d' = book-distinct (rows q) (standing_after other others) k.order q.differ in
     record {
       one = h;
       other = k;
       agree = λ same. record {
-        along = along-apart one calls other others d d' same (integer (totalsOf p).along) (integer (totalsOf q).along) h.near.along k.near.along;
-        across = across-apart one calls other others d d' same (integer (totalsOf p).across) (integer (totalsOf q).across) h.near.across k.near.across;
+        along = along-apart one calls other others d d' same (integer (totals_of p).along) (integer (totals_of q).along) h.near.along k.near.along;
+        across = across-apart one calls other others d d' same (integer (totals_of p).across) (integer (totals_of q).across) h.near.across k.near.across;
       };
       functions = six;
     }

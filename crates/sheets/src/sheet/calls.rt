@@ -2,14 +2,14 @@ ghost use Rattle.std.specs.Prelude.{◌≡◌, ℕ, ◌<◌, ◌≤◌, true, fa
 ghost use Rattle.std.specs.List.{ContainsAt as Has};
 ghost use Rattle.sheets.specs.declared.row.Row.{Row};
 ghost use Rattle.sheets.specs.declared.fault.SheetFault.TheVariants.{NoPlace, Absent};
-ghost use Rattle.sheets.specs.Rows.{samples, among, speedOf, alongOf, acrossOf};
-ghost use Rattle.sheets.specs.Book.{allowed, mayEnter, mayCorrect, mayWithdraw};
-ghost use Rattle.sheets.specs.Sheets.{rows, rowFor, corrected, without, InAnyOrder};
+ghost use Rattle.sheets.specs.Rows.{samples, among, speed_of, along_of, across_of};
+ghost use Rattle.sheets.specs.Book.{allowed, may_enter, may_correct, may_withdraw};
+ghost use Rattle.sheets.specs.Sheets.{rows, row_for, corrected, without, InAnyOrder};
 
 use crate::fault::SheetFault;
 use crate::row::Row;
+use crate::row_table::Table;
 use crate::sheet::Sheet;
-use crate::table::Table;
 use crate::totals::Totals;
 use readers::reader::Reader;
 use shares::share::{Shares, shares_of};
@@ -26,8 +26,8 @@ impl<R: Reader> Sheet<R> {
     }
 
     pub fn enter(&mut self, sample: u16, speed: u16, word: u32) -> Result<(), SheetFault>
-        ensures answer { result ≡ mayEnter (R.Reader.steps self.old.reader word) (samples (rows self.old)) sample }
-        ensures rows { rows self.new ≡ allowed result (rows self.old ++ rowFor (R.Reader.answer self.old.reader word) sample speed word ∷ []) (rows self.old) }
+        ensures answer { result ≡ may_enter (R.Reader.steps self.old.reader word) (samples (rows self.old)) sample }
+        ensures rows { rows self.new ≡ allowed result (rows self.old ++ row_for (R.Reader.answer self.old.reader word) sample speed word ∷ []) (rows self.old) }
         ensures reader { self.new.reader ≡ self.old.reader }
         ensures same { OnErr result (self.new ≡ self.old) }
     {
@@ -50,8 +50,8 @@ impl<R: Reader> Sheet<R> {
     }
 
     pub fn correct(&mut self, sample: u16, speed: u16, word: u32) -> Result<(), SheetFault>
-        ensures answer { result ≡ mayCorrect (R.Reader.steps self.old.reader word) (samples (rows self.old)) sample }
-        ensures rows { rows self.new ≡ allowed result (corrected (rows self.old) sample (rowFor (R.Reader.answer self.old.reader word) sample speed word)) (rows self.old) }
+        ensures answer { result ≡ may_correct (R.Reader.steps self.old.reader word) (samples (rows self.old)) sample }
+        ensures rows { rows self.new ≡ allowed result (corrected (rows self.old) sample (row_for (R.Reader.answer self.old.reader word) sample speed word)) (rows self.old) }
         ensures reader { self.new.reader ≡ self.old.reader }
         ensures same { OnErr result (self.new ≡ self.old) }
     {
@@ -65,7 +65,7 @@ impl<R: Reader> Sheet<R> {
     }
 
     pub fn withdraw(&mut self, sample: u16) -> Result<(), SheetFault>
-        ensures answer { result ≡ mayWithdraw (samples (rows self.old)) sample }
+        ensures answer { result ≡ may_withdraw (samples (rows self.old)) sample }
         ensures rows { InAnyOrder (allowed result (without (rows self.old) sample) (rows self.old)) (rows self.new) }
         ensures reader { self.new.reader ≡ self.old.reader }
         ensures same { OnErr result (self.new ≡ self.old) }
@@ -103,9 +103,9 @@ impl<R: Reader> Sheet<R> {
     }
 
     pub fn totals(&self) -> Totals
-        ensures speed { result.speed ≡ speedOf (rows self.now) }
-        ensures along { result.along ≡ alongOf (rows self.now) }
-        ensures across { result.across ≡ acrossOf (rows self.now) }
+        ensures speed { result.speed ≡ speed_of (rows self.now) }
+        ensures along { result.along ≡ along_of (rows self.now) }
+        ensures across { result.across ≡ across_of (rows self.now) }
     {
         self.table.totals()
     }

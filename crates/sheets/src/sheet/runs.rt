@@ -1,6 +1,6 @@
 ghost use Rattle.std.specs.Prelude.{◌≡◌, List, OnErr};
 ghost use Rattle.sheets.specs.declared.book.Entry.{Entry};
-ghost use Rattle.sheets.specs.Book.{asked, written, standingAfter};
+ghost use Rattle.sheets.specs.Book.{asked, written, standing_after};
 ghost use Rattle.sheets.specs.Rows.{samples};
 ghost use Rattle.sheets.specs.Sheets.{rows};
 ghost use Rattle.sheets.specs.Runs.{Grown};
@@ -35,7 +35,7 @@ pub fn follow<R: Reader>(sheet: &mut Sheet<R>, call: Call) -> Result<(), SheetFa
 
 // A new sheet over the reader, after the calls in their order.
 pub fn run<R: Reader>(reader: R, calls: &[Call]) -> Sheet<R>
-    ensures grown { Grown (R.Reader.answer reader) (standingAfter (R.Reader.steps reader) calls.now) (rows result) }
+    ensures grown { Grown (R.Reader.answer reader) (standing_after (R.Reader.steps reader) calls.now) (rows result) }
     ensures reader { result.reader ≡ reader }
 {
     let mut sheet = Sheet::new(reader);

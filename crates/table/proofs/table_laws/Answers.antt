@@ -1,7 +1,7 @@
 use Rattle.table.proofs.Table.{table-sine, table-cosine, good}
-use Rattle.table.proofs.Tangents.{table-tangent}
+use Rattle.table.proofs.Tangents.{table_tangent_lem}
 use Rattle.table.proofs.Against.{sine-against, cosine-against}
-use Rattle.table.proofs.TangentAgainst.{tangent-against, tangent-nearer}
+use Rattle.table.proofs.TangentAgainst.{tangent_against, tangent_nearer}
 use Rattle.table.proofs.table_laws.Goals as goal
 
 pub returns : goal.returns
@@ -9,9 +9,9 @@ returns c =
     record {
       sines = λ k h. ((table-sine k h).held, good (table-sine k h));
       cosines = λ k h. ((table-cosine k h).held, good (table-cosine k h));
-      tangents = table-tangent;
+      tangents = table_tangent_lem;
       sine = sine-against;
       cosine = cosine-against;
-      tangent = tangent-against;
-      nearer = tangent-nearer;
+      tangent = tangent_against;
+      nearer = tangent_nearer;
     }

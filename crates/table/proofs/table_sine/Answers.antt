@@ -1,14 +1,14 @@
 use mathlib.Core.Path.{refl}
 use native.Mathlib.Omega.{arith}
 use Prim.Native.Nat.{◌<◌, ◌%◌}
-use Rattle.table.specs.Sines.{sinTable, tableSine}
+use Rattle.table.specs.Sines.{sin_table, table_sine}
 use Rattle.table.proofs.Table.{no_nan, table-sine, good}
 use Rattle.table.proofs.table_sine.Goals as goal
 
 pub float-from-bits-result : goal.float-from-bits-result
-unfolding sinTable
+unfolding sin_table
 float-from-bits-result c = no_nan (c.args.k % 64) (omega arith)
 
 pub returns : goal.returns
-unfolding tableSine
+unfolding table_sine
 returns c = record { is = refl; near = good (table-sine (c.args.k % 64) (omega arith)) }

@@ -1,13 +1,13 @@
 use Rattle.std.proofs.Common.{◌≡◌, ℕ, ◌<◌, List, ◌++◌, length, ap, ◌∙◌, arith, rules}
 use Rattle.record.specs.Record.{fields_of}
-use Rattle.record.specs.Outcome.{callsIn}
+use Rattle.record.specs.Outcome.{calls_in}
 use Rattle.record.proofs.Fields.{field-shorter}
 use Rattle.agreement.proofs.Gathered.{calls-stop, calls-more, calls-end}
 use Rattle.agreement.proofs.calls.calls_of.Goals as goal
 
 pub loop-rest-init : goal.loop-rest-init
 loop-rest-init c =
-    (length c.args.bytes.now, omega arith, ap (λ l. l ++ callsIn (fields_of c.args.bytes.now)) c.new-calls.ensures.items)
+    (length c.args.bytes.now, omega arith, ap (λ l. l ++ calls_in (fields_of c.args.bytes.now)) c.new-calls.ensures.items)
 
 pub returns-in-default : goal.returns-in-default
 returns-in-default c =

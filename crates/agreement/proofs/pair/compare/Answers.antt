@@ -4,7 +4,7 @@ use Rattle.sheets.specs.declared.book.Call.{Call}
 use Rattle.sheets.specs.declared.totals.Totals.{Totals}
 use Rattle.record.specs.declared.edition.Edition.{Edition}
 use Rattle.record.specs.declared.edition.Mount.{Mount}
-use Rattle.record.specs.Record.{stepsUnder, editionSteps}
+use Rattle.record.specs.Record.{steps_under, edition_steps}
 use Rattle.agreement.specs.Compared.{Compared}
 use Rattle.agreement.proofs.pair.compare.Goals as goal
 
@@ -14,8 +14,8 @@ alike one one' other other' calls calls' others others' a b p q r s h =
     subst (λ z. Compared one' calls' other' z a b) s (subst (λ z. Compared one' calls' z others a b) r (subst (λ z. Compared one' z other others a b) q (subst (λ z. Compared z calls other others a b) p h)))
 
 -- what equal editions and mounts mean
-meant : (e e' : Edition) (m m' : Option Mount) → e ≡ e' → m ≡ m' → ◌≡◌ {A = ℕ → Steps} (stepsUnder m (editionSteps e)) (stepsUnder m' (editionSteps e'))
-meant e e' m m' p q i = stepsUnder (q i) (editionSteps (p i))
+meant : (e e' : Edition) (m m' : Option Mount) → e ≡ e' → m ≡ m' → ◌≡◌ {A = ℕ → Steps} (steps_under m (edition_steps e)) (steps_under m' (edition_steps e'))
+meant e e' m m' p q i = steps_under (q i) (edition_steps (p i))
 
 pub returns : goal.returns
 returns c =

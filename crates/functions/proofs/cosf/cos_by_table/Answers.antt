@@ -1,6 +1,6 @@
 use Rattle.std.proofs.Common.{◌≡◌, ◌%◌, refl, ◌∙◌, rules}
 use Rattle.reducers.specs.Reduce.{reduce}
-use Rattle.reducers.specs.Exact.{modTurn}
+use Rattle.reducers.specs.Exact.{mod_turn}
 use Rattle.table.specs.Sines.{cosine64}
 use Rattle.functions.proofs.Steps.{by-step, small-pass}
 use Rattle.functions.proofs.cosf.cos_by_table.Goals as goal
@@ -16,6 +16,6 @@ returns c =
       | then-x-abs-lt-SMALL-PASS-BOUND w ↦ w.y-is ∙ w.reduce-small.ensures ∙ small-pass x b w.if-x-abs-lt-SMALL-PASS-BOUND.true
       | else-x-abs-lt-SMALL-PASS-BOUND w ↦ w.y-is ∙ w.reduce.ensures.is
     ] in
-    let h : k ≡ modTurn r.1 = search rules in
+    let h : k ≡ mod_turn r.1 = search rules in
     let g : c.cosine.result ≡ cosine64 r.0 (k % 64) = rw (c.cosine.ensures, c.sincosf-eval-rs.ensures.sin-y, c.sincosf-eval-rs.ensures.cosm1-y, c.sincosf-eval-rs.ensures.sin-k, c.sincosf-eval-rs.ensures.cos-k) refl in
     by-step cosine64 (reduce x b) r k c.cosine.result e h g

@@ -1,7 +1,7 @@
 use Rattle.std.proofs.Common.{◌≡◌, ◌%◌, ap, ◌∙◌, arith, rules}
 use lib.Ieee.{neg}
-use Rattle.reducers.specs.Exact.{modTurn}
-use Rattle.formulas.specs.HalfTurns.{cosineBy}
+use Rattle.reducers.specs.Exact.{mod_turn}
+use Rattle.formulas.specs.HalfTurns.{cosine_by}
 use Rattle.formulas.proofs.Ways.{cosine-last, quarter-at}
 use Rattle.functions.proofs.cospif.cospi_by_quarter.Goals as goal
 
@@ -10,5 +10,5 @@ returns-in-default c =
     let k = c.step-of.result in
     let r = c.reduce-0p25-y.result in
     let e : k % 4 ≡ 3 = omega arith in
-    let h : k ≡ modTurn r.1 = search rules in
-    c.sinpif-eval-in-default.ensures ∙ cosine-last (k % 4) r.0 e ∙ quarter-at cosineBy c.args.x r k c.reduce-0p25-y.ensures.is h
+    let h : k ≡ mod_turn r.1 = search rules in
+    c.sinpif-eval-in-default.ensures ∙ cosine-last (k % 4) r.0 e ∙ quarter-at cosine_by c.args.x r k c.reduce-0p25-y.ensures.is h

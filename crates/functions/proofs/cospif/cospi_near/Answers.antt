@@ -1,6 +1,6 @@
 use Rattle.std.proofs.Common.{refl}
 use lib.Ieee.{nan_bits}
-use Rattle.formulas.specs.HalfTurns.{cospiNear}
+use Rattle.formulas.specs.HalfTurns.{cospi_near}
 use Rattle.functions.proofs.cospif.cospi_near.Goals as goal
 
 pub float-from-bits-f-polyeval5 : goal.float-from-bits-f-polyeval5
@@ -24,5 +24,5 @@ unfolding nan_bits
 float-from-bits-f-polyeval5-5 c = tt
 
 pub returns : goal.returns
-unfolding cospiNear
+unfolding cospi_near
 returns c = rw c.f-polyeval5.ensures.is refl

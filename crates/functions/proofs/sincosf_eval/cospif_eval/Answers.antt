@@ -1,6 +1,6 @@
 use Rattle.std.proofs.Common.{refl}
 use lib.Ieee.{nan_bits}
-use Rattle.formulas.specs.HalfTurns.{cospiY}
+use Rattle.formulas.specs.HalfTurns.{cospi_y}
 use Rattle.functions.proofs.sincosf_eval.cospif_eval.Goals as goal
 
 pub float-from-bits-f-estrin-polyeval7 : goal.float-from-bits-f-estrin-polyeval7
@@ -32,5 +32,5 @@ unfolding nan_bits
 float-from-bits-f-estrin-polyeval7-7 c = tt
 
 pub returns : goal.returns
-unfolding cospiY
+unfolding cospi_y
 returns c = rw c.f-estrin-polyeval7.ensures.is refl

@@ -1,6 +1,6 @@
 use Rattle.std.proofs.Common.{refl}
 use lib.Ieee.{nan_bits}
-use Rattle.formulas.specs.HalfTurns.{sinpiY}
+use Rattle.formulas.specs.HalfTurns.{sinpi_y}
 use Rattle.functions.proofs.sincosf_eval.sinpif_eval.Goals as goal
 
 pub float-from-bits-f-polyeval6 : goal.float-from-bits-f-polyeval6
@@ -28,5 +28,5 @@ unfolding nan_bits
 float-from-bits-f-polyeval6-6 c = tt
 
 pub returns : goal.returns
-unfolding sinpiY
+unfolding sinpi_y
 returns c = rw c.f-polyeval6.ensures.is refl

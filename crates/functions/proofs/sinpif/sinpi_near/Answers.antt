@@ -1,6 +1,6 @@
 use Rattle.std.proofs.Common.{refl}
 use lib.Ieee.{nan_bits}
-use Rattle.formulas.specs.HalfTurns.{sinpiNear}
+use Rattle.formulas.specs.HalfTurns.{sinpi_near}
 use Rattle.functions.proofs.sinpif.sinpi_near.Goals as goal
 
 pub float-from-bits-f-polyeval5 : goal.float-from-bits-f-polyeval5
@@ -24,5 +24,5 @@ unfolding nan_bits
 float-from-bits-f-polyeval5-5 c = tt
 
 pub returns : goal.returns
-unfolding sinpiNear
+unfolding sinpi_near
 returns c = rw c.f-polyeval5-p.ensures.is refl

@@ -1,7 +1,7 @@
 use Rattle.std.proofs.Common.{◌≡◌, ℕ, ◌+◌, ◌<◌, List, length, get_or, take, set, Ok, sym, refl, ◌∙◌, subst, arith}
 use Rattle.std.proofs.lemmas.List.{take_all}
 use Rattle.sheets.specs.declared.book.Call.TheVariants.{Enter}
-use Rattle.sheets.specs.Sheets.{rows, totalsOf}
+use Rattle.sheets.specs.Sheets.{rows, totals_of}
 use Rattle.law.specs.declared.asking.Asked.{Asked}
 use Rattle.law.specs.declared.asking.Reply.TheVariants.{Done}
 use Rattle.law.specs.Law.{Holds}
@@ -44,6 +44,6 @@ returns g c =
     record {
       calls = c.loop-i.invariant.1;
       answers = so.run;
-      holds = subst (λ l. Holds (g.R.Reader.steps reader) (g.R.Reader.answer reader) l (rows s) (totalsOf s)) c.loop-i.invariant.1
-          (holds (g.R.Reader.steps reader) (g.R.Reader.answer reader) (g.met.R.Reader.meaning reader) (calls_of list) (rows s) (totalsOf s) so.grown s.speed s.along s.across);
+      holds = subst (λ l. Holds (g.R.Reader.steps reader) (g.R.Reader.answer reader) l (rows s) (totals_of s)) c.loop-i.invariant.1
+          (holds (g.R.Reader.steps reader) (g.R.Reader.answer reader) (g.met.R.Reader.meaning reader) (calls_of list) (rows s) (totals_of s) so.grown s.speed s.along s.across);
     }

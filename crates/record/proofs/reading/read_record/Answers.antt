@@ -5,13 +5,13 @@ use Rattle.record.specs.declared.fault.Cause.TheVariants.{Tag}
 use Rattle.record.specs.declared.fault.RecordFault.{RecordFault}
 use Rattle.record.specs.declared.tally.Tally.{Tally}
 use Rattle.record.specs.Fields.{and_then}
-use Rattle.record.specs.Record.{fields, replay, stepsUnder, answerUnder, editionSteps, editionAnswer, tally_of, recordTally}
+use Rattle.record.specs.Record.{fields, replay, steps_under, answer_under, edition_steps, edition_answer, tally_of, record_tally}
 use Rattle.record.proofs.Fields.{field-shorter, first-edition}
 use Rattle.record.proofs.Openings.{record-refused, record-read}
 use Rattle.record.proofs.reading.read_record.Goals as goal
 
-nothing : (bytes : List ℕ) → length bytes ≡ 0 → Err (record { cause = Tag; offset = 0 }) ≡ recordTally bytes
-unfolding recordTally
+nothing : (bytes : List ℕ) → length bytes ≡ 0 → Err (record { cause = Tag; offset = 0 }) ≡ record_tally bytes
+unfolding record_tally
 nothing [] h = refl
 nothing (b ∷ bs) h = absurd (omega arith)
 
@@ -52,7 +52,7 @@ returns-in-Radians c =
     let e : Edition = c.in-Edition.edition in
     let r = record-read bytes _ e m.mount m.rest.now m.state there c.in-ok-first.ensures c.in-Edition.is c.take-mount-mount.ensures in
     c.tally-under.ensures r.0 r.1
-    ∙ ap (λ z. and_then (replay (stepsUnder m.mount (editionSteps z)) [] (fields r.0 m.state (length bytes) m.rest.now)) (λ book. Ok (tally_of e (answerUnder m.mount (editionAnswer z)) book))) (sym c.in-Radians.is)
+    ∙ ap (λ z. and_then (replay (steps_under m.mount (edition_steps z)) [] (fields r.0 m.state (length bytes) m.rest.now)) (λ book. Ok (tally_of e (answer_under m.mount (edition_answer z)) book))) (sym c.in-Radians.is)
     ∙ sym r.2
 
 pub returns-in-HalfTurns : goal.returns-in-HalfTurns
@@ -63,5 +63,5 @@ returns-in-HalfTurns c =
     let e : Edition = c.in-Edition.edition in
     let r = record-read bytes _ e m.mount m.rest.now m.state there c.in-ok-first.ensures c.in-Edition.is c.take-mount-mount.ensures in
     c.tally-under-in-HalfTurns.ensures r.0 r.1
-    ∙ ap (λ z. and_then (replay (stepsUnder m.mount (editionSteps z)) [] (fields r.0 m.state (length bytes) m.rest.now)) (λ book. Ok (tally_of e (answerUnder m.mount (editionAnswer z)) book))) (sym c.in-HalfTurns.is)
+    ∙ ap (λ z. and_then (replay (steps_under m.mount (edition_steps z)) [] (fields r.0 m.state (length bytes) m.rest.now)) (λ book. Ok (tally_of e (answer_under m.mount (edition_answer z)) book))) (sym c.in-HalfTurns.is)
     ∙ sym r.2

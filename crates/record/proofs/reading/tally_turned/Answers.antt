@@ -1,5 +1,5 @@
 use Rattle.std.proofs.Common.{◌≡◌, ℕ, [], Ok, ap, ◌∙◌, subst}
-use Rattle.readers.specs.Meaning.{turnedSteps, turnedAnswer}
+use Rattle.readers.specs.Meaning.{turned_steps, turned_answer}
 use Rattle.record.specs.Fields.{and_then}
 use Rattle.record.specs.Record.{fields, replay, tally_of}
 use Rattle.record.proofs.reading.tally_turned.Given as given
@@ -7,5 +7,5 @@ use Rattle.record.proofs.reading.tally_turned.Goals as goal
 
 pub returns : goal.returns
 returns g c n l =
-    let outcome : g.row.R.Denot → ℕ → _ = λ below q. and_then (replay (λ w. turnedSteps q (g.R.Reader.steps below w)) [] (fields n c.args.state c.args.total c.args.rest.now)) (λ book. Ok (tally_of c.args.edition (λ w. turnedAnswer q (g.R.Reader.answer below w)) book)) in
+    let outcome : g.row.R.Denot → ℕ → _ = λ below q. and_then (replay (λ w. turned_steps q (g.R.Reader.steps below w)) [] (fields n c.args.state c.args.total c.args.rest.now)) (λ book. Ok (tally_of c.args.edition (λ w. turned_answer q (g.R.Reader.answer below w)) book)) in
     c.tally-rows.ensures n l ∙ ap (λ b. outcome b c.in-Ok.mounted.quarters) c.in-Ok.ensures.0 ∙ ap (outcome c.args.below) c.in-Ok.ensures.1

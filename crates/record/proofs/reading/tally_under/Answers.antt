@@ -1,19 +1,19 @@
 use Rattle.std.proofs.Common.{◌≡◌, ℕ, Bool, List, [], Ok, Option, Result, sym, ap, ◌∙◌}
-use Rattle.readers.specs.Meaning.{Steps, Reading, turnedSteps, turnedAnswer}
+use Rattle.readers.specs.Meaning.{Steps, Reading, turned_steps, turned_answer}
 use Rattle.record.specs.declared.edition.Edition.{Edition}
 use Rattle.record.specs.declared.edition.Mount.{Mount}
 use Rattle.record.specs.declared.fault.RecordFault.{RecordFault}
 use Rattle.record.specs.declared.tally.Tally.{Tally}
 use Rattle.record.specs.Fields.{and_then}
-use Rattle.record.specs.Record.{Field, fields, replay, tally_of, mirrorSteps, mirrorAnswer, stepsUnder, answerUnder}
+use Rattle.record.specs.Record.{Field, fields, replay, tally_of, mirror_steps, mirror_answer, steps_under, answer_under}
 use Rattle.record.proofs.reading.tally_under.Goals as goal
 
 -- by the mount, and by its two parts
 under : Edition → List Field → (ℕ → Steps) → (ℕ → Reading) → Option Mount → Result Tally RecordFault
-under e fs steps answer m = and_then (replay (stepsUnder m steps) [] fs) (λ book. Ok (tally_of e (answerUnder m answer) book))
+under e fs steps answer m = and_then (replay (steps_under m steps) [] fs) (λ book. Ok (tally_of e (answer_under m answer) book))
 
 within : Edition → List Field → (ℕ → Steps) → (ℕ → Reading) → ℕ → Bool → Result Tally RecordFault
-within e fs steps answer q b = and_then (replay (λ w. turnedSteps q (mirrorSteps b (steps w))) [] fs) (λ book. Ok (tally_of e (λ w. turnedAnswer q (mirrorAnswer b (answer w))) book))
+within e fs steps answer q b = and_then (replay (λ w. turned_steps q (mirror_steps b (steps w))) [] fs) (λ book. Ok (tally_of e (λ w. turned_answer q (mirror_answer b (answer w))) book))
 
 pub returns-in-None : goal.returns-in-None
 unfolding under

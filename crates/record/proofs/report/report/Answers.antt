@@ -4,13 +4,13 @@ use Rattle.std.proofs.lemmas.Int.{to_z-of_z}
 use Rattle.std.proofs.lemmas.Bool.{cond-false, le-ltb}
 use Rattle.record.specs.declared.fault.RecordFault.{RecordFault}
 use Rattle.record.specs.declared.tally.Tally.{Tally}
-use Rattle.record.specs.Page.{pasted, lines, reportText, outcomeOf, Reported}
-use Rattle.record.specs.Record.{recordTally}
+use Rattle.record.specs.Page.{pasted, lines, report_text, outcome_of, Reported}
+use Rattle.record.specs.Record.{record_tally}
 use Rattle.record.proofs.Outcomes.{outcome-means}
 use Rattle.record.proofs.report.report.Goals as goal
 
 -- past the first two questions, the record decides
-decided : (room : ℕ) (bytes : List ℕ) → 96 ≤ room → length bytes ≤ 65536 → outcomeOf room bytes ≡ recordTally bytes
+decided : (room : ℕ) (bytes : List ℕ) → 96 ≤ room → length bytes ≤ 65536 → outcome_of room bytes ≡ record_tally bytes
 decided room bytes h l = cond-false (ltb room 96) _ _ (le-ltb room 96 h) ∙ cond-false (ltb 65536 (length bytes)) _ _ (le-ltb 65536 (length bytes) l)
 
 refused : (o : Result Tally RecordFault) (f e : RecordFault) (page : List ℕ) (r : Result ℕ RecordFault) → o ≡ Err f → r ≡ Err e → e ≡ f → Reported o r page page
@@ -22,11 +22,11 @@ returns-in-err-tally c =
     let bytes : List ℕ = c.args.bytes.now in
     let room : ℕ = length c.args.buffer.now in
     record {
-      outcome = refused (outcomeOf room bytes) c.in-err-tally.field-0.0 p.0 c.args.buffer.now c.from-residual.result (decided room bytes c.if-buffer-lt-ROOM.false c.if-bytes-gt-LONGEST.false ∙ sym c.in-err-tally.ensures) p.1 p.2;
+      outcome = refused (outcome_of room bytes) c.in-err-tally.field-0.0 p.0 c.args.buffer.now c.from-residual.result (decided room bytes c.if-buffer-lt-ROOM.false c.if-bytes-gt-LONGEST.false ∙ sym c.in-err-tally.ensures) p.1 p.2;
       means = outcome-means room bytes (λ i. (c.type-inv.bytes i).fits);
     }
 
-written : (o : Result Tally RecordFault) (t : Tally) (n : ℕ) (page after text : List ℕ) → o ≡ Ok t → text ≡ reportText t → n ≡ length text → after ≡ pasted page 0 text → Reported o (Ok n) page after
+written : (o : Result Tally RecordFault) (t : Tally) (n : ℕ) (page after text : List ℕ) → o ≡ Ok t → text ≡ report_text t → n ≡ length text → after ≡ pasted page 0 text → Reported o (Ok n) page after
 written o t n page after text p e k a = subst (λ z. Reported z (Ok n) page after) (sym p) (k ∙ ap length e, a ∙ ap (pasted page 0) e)
 
 pub returns : goal.returns
@@ -35,7 +35,7 @@ returns c =
     let room : ℕ = length c.args.buffer.now in
     let t : Tally = c.in-ok-tally.tally in
     record {
-      outcome = written (outcomeOf room bytes) t c.write-lines.result c.args.buffer.now c.write-lines.new.buffer _ (decided room bytes c.if-buffer-lt-ROOM.false c.if-bytes-gt-LONGEST.false ∙ sym c.in-ok-tally.ensures)
+      outcome = written (outcome_of room bytes) t c.write-lines.result c.args.buffer.now c.write-lines.new.buffer _ (decided room bytes c.if-buffer-lt-ROOM.false c.if-bytes-gt-LONGEST.false ∙ sym c.in-ok-tally.ensures)
           (ap (λ z. lines t.edition t.rows t.speed z (to_z w64 (of_z w64 t.across))) (to_z-of_z w64 t.along (search rules)) ∙ ap (lines t.edition t.rows t.speed t.along) (to_z-of_z w64 t.across (search rules)))
           c.write-lines.ensures.end c.write-lines.ensures.page;
       means = outcome-means room bytes (λ i. (c.type-inv.bytes i).fits);

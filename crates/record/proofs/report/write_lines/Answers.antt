@@ -1,7 +1,7 @@
 use Rattle.std.proofs.Common.{◌≡◌, ℕ, ◌+◌, ◌<◌, ◌≤◌, List, length, ℤ, codes, decimal, ap, ◌∙◌, arith, w64, SFits}
 use Rattle.std.specs.Fmt.{signed_decimal}
 use Rattle.std.proofs.lemmas.Int.{to_z-of_z}
-use Rattle.record.specs.Fields.{editionNumber}
+use Rattle.record.specs.Fields.{edition_number}
 use Rattle.record.specs.Page.{pasted, line, lines}
 use Rattle.record.proofs.Pages.{count-line, signed-line, five}
 use Rattle.record.proofs.report.write_lines.Goals as goal
@@ -38,11 +38,11 @@ put-signed-line-requires c =
 pub returns : goal.returns
 unfolding lines
 returns c =
-    let n : c.number.result ≡ editionNumber c.args.edition = c.number.ensures in
+    let n : c.number.result ≡ edition_number c.args.edition = c.number.ensures in
     let ea = to_z-of_z w64 c.args.along c.ranges.along in
     let eb = to_z-of_z w64 c.args.across c.ranges.across in
     let r = five c.args.buffer.now c.put-line-a.new.buffer c.put-line-b.new.buffer c.put-line-c.new.buffer c.put-signed-line-d.new.buffer _ c.put-line-a.result c.put-line-b.result c.put-line-c.result c.put-signed-line-d.result _
-    (line (codes "edition ") (decimal (editionNumber c.args.edition))) (line (codes "rows ") (decimal c.args.rows)) (line (codes "speed ") (decimal c.args.speed)) (line (codes "along ") (signed_decimal c.args.along)) (line (codes "across ") (signed_decimal c.args.across))
+    (line (codes "edition ") (decimal (edition_number c.args.edition))) (line (codes "rows ") (decimal c.args.rows)) (line (codes "speed ") (decimal c.args.speed)) (line (codes "along ") (signed_decimal c.args.along)) (line (codes "across ") (signed_decimal c.args.across))
     (omega (arith, ap (λ k. length (line (codes "edition ") (decimal k))) n, edition-line c.number.result (omega arith), rows-line c.args.rows (omega arith), speed-line c.args.speed (omega arith), signed-line (codes "along ") c.args.along c.ranges.along, signed-line (codes "across ") c.args.across c.ranges.across, c.requires))
     (c.put-line-a.ensures.page ∙ ap (λ k. pasted c.args.buffer.now 0 (line (codes "edition ") (decimal k))) n)
     (c.put-line-a.ensures.end ∙ ap (λ k. 0 + length (line (codes "edition ") (decimal k))) n)

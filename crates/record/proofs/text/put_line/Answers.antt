@@ -1,5 +1,5 @@
 use Rattle.std.proofs.Common.{◌+◌, length, decimal, arith}
-use Rattle.record.proofs.Pages.{length-line, put-as-line}
+use Rattle.record.proofs.Pages.{length-line, put_as_line}
 use Rattle.record.proofs.text.put_line.Goals as goal
 
 pub put-a-requires : goal.put-a-requires
@@ -13,5 +13,5 @@ put-requires c = omega (arith, length-line c.args.word.now (decimal c.args.n), c
 
 pub returns : goal.returns
 returns c =
-    let r = put-as-line c.args.buffer.now c.put-a.new.buffer c.put-decimal-b.new.buffer _ c.args.at c.put-a.result c.put-decimal-b.result _ c.args.word.now (decimal c.args.n) c.requires c.put-a.ensures.page c.put-a.ensures.end c.put-decimal-b.ensures.page c.put-decimal-b.ensures.end c.put.ensures.page c.put.ensures.end in
+    let r = put_as_line c.args.buffer.now c.put-a.new.buffer c.put-decimal-b.new.buffer _ c.args.at c.put-a.result c.put-decimal-b.result _ c.args.word.now (decimal c.args.n) c.requires c.put-a.ensures.page c.put-a.ensures.end c.put-decimal-b.ensures.page c.put-decimal-b.ensures.end c.put.ensures.page c.put.ensures.end in
     record { page = r.0; end = r.1 }

@@ -1,9 +1,9 @@
 use Rattle.std.proofs.Common.{◌≡◌, eqb, ap, ◌∙◌, rules}
-use Rattle.rounding.specs.Bits.{oddBits}
+use Rattle.rounding.specs.Bits.{odd_bits}
 use Rattle.rounding.proofs.Wholes.{odd-means}
 use Rattle.rounding.proofs.bits.is_odd_integerf.Goals as goal
 
 pub returns : goal.returns
 returns c =
-    let e : eqb c.last-place.result 150 ≡ oddBits c.args.x = ap (λ z. eqb z 150) c.last-place.ensures in
+    let e : eqb c.last-place.result 150 ≡ odd_bits c.args.x = ap (λ z. eqb z 150) c.last-place.ensures in
     record { is = e; means = e ∙ odd-means c.args.x (search rules) }

@@ -3,7 +3,7 @@ use lib.Ieee.{Float}
 use Rattle.std.proofs.lemmas.Result.{err_from_is_err_and}
 use Rattle.readers.specs.Meaning.{Reading, Keeps}
 use Rattle.shares.specs.Share.{sine32, cosine32}
-use Rattle.shares.specs.Needle.{needleOf, Points}
+use Rattle.shares.specs.Needle.{needle_of, Points}
 use Rattle.shares.proofs.Limits.{points}
 use Rattle.shares.proofs.needle.needle.Given as given
 use Rattle.shares.proofs.needle.needle.Goals as goal
@@ -11,20 +11,20 @@ use Rattle.shares.proofs.needle.needle.Goals as goal
 paired : (p : Float × Float) (a b : Float) → p.0 ≡ a → p.1 ≡ b → ◌≡◌ {A = Float × Float} p (a, b)
 paired p a b e f i = (e i, f i)
 
-near : (g : given.Over) (r : g.row.R.Denot) (w : ℕ) (a : _) → w < 2 ^ 32 → a ≡ needleOf (g.R.Reader.answer r w) → Points (g.R.Reader.steps r w) a
+near : (g : given.Over) (r : g.row.R.Denot) (w : ℕ) (a : _) → w < 2 ^ 32 → a ≡ needle_of (g.R.Reader.answer r w) → Points (g.R.Reader.steps r w) a
 near g r w a h e = subst (Points (g.R.Reader.steps r w)) (sym e) (points (g.R.Reader.steps r w) (g.R.Reader.answer r w) (g.met.R.Reader.meaning r w h))
 
 pub returns-in-err-k : goal.returns-in-err-k
-unfolding needleOf
+unfolding needle_of
 returns-in-err-k g c =
     let p = err_from_is_err_and c.from-residual.result c.from-residual.ensures.1 in
-    let e : c.from-residual.result ≡ needleOf (g.R.Reader.answer c.args.reader.now c.args.word) = p.1 ∙ ap Err p.2 ∙ ap needleOf c.in-err-k.ensures in
+    let e : c.from-residual.result ≡ needle_of (g.R.Reader.answer c.args.reader.now c.args.word) = p.1 ∙ ap Err p.2 ∙ ap needle_of c.in-err-k.ensures in
     record { is = e; near = near g c.args.reader.now c.args.word c.from-residual.result (omega arith) e }
 
 pub returns : goal.returns
-unfolding needleOf
+unfolding needle_of
 returns g c =
     let s = c.sine-and-cosine.ensures.sine-is in
     let t = c.sine-and-cosine.ensures.cosine-is in
-    let e : Ok c.sine-and-cosine.result ≡ needleOf (g.R.Reader.answer c.args.reader.now c.args.word) = ap Ok (paired c.sine-and-cosine.result _ _ s t) ∙ ap needleOf c.in-ok-k.ensures in
+    let e : Ok c.sine-and-cosine.result ≡ needle_of (g.R.Reader.answer c.args.reader.now c.args.word) = ap Ok (paired c.sine-and-cosine.result _ _ s t) ∙ ap needle_of c.in-ok-k.ensures in
     record { is = e; near = near g c.args.reader.now c.args.word (Ok c.sine-and-cosine.result) (omega arith) e }

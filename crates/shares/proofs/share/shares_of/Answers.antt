@@ -1,10 +1,10 @@
 use Rattle.std.proofs.Common.{◌%◌, sym, ap, ◌∙◌, arith, to_z-of_z}
-use Rattle.shares.specs.Share.{share_of, sineShare, cosineShare}
+use Rattle.shares.specs.Share.{share_of, sine_share, cosine_share}
 use Rattle.shares.proofs.Limits.{share-sine, share-cosine}
 use Rattle.shares.proofs.share.shares_of.Goals as goal
 
 pub returns : goal.returns
-unfolding sineShare cosineShare
+unfolding sine_share cosine_share
 returns c =
     let s = to_z-of_z {w = mir.Syntax.w32} {z = c.share.result} (record { sfits = c.share.type-inv }) ∙ (c.share.ensures ∙ ap share_of c.sine-and-cosine-sine.ensures.sine-is) in
     let t = to_z-of_z {w = mir.Syntax.w32} {z = c.share-2.result} (record { sfits = c.share-2.type-inv }) ∙ (c.share-2.ensures ∙ ap share_of c.sine-and-cosine-sine.ensures.cosine-is) in

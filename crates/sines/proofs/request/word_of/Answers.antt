@@ -1,5 +1,5 @@
 use Rattle.std.proofs.Common.{◌≡◌, ◌+◌, ◌*◌, ◌^◌, ◌<◌, ◌≤◌, length, get_or, drop, Some, None, sym, ◌∙◌, subst, le_of_eq, arith, rules}
-use Rattle.sines.specs.Reading.{digitOf, word_of}
+use Rattle.sines.specs.Reading.{digit_of, word_of}
 use Rattle.sines.proofs.Digits.{stops, small, goes_on, word_fits, ends}
 use Rattle.sines.proofs.request.word_of.Goals as goal
 
@@ -34,7 +34,7 @@ loop-b-preserved c =
     let w = c.loop-b.word in
     let i = c.loop-b.b-index in
     let h : i < length text = search rules in
-    let e : digitOf (get_or text i 0) ≡ Some c.from.result = sym c.digit.ensures ∙ c.in-ok-d.was ∙ mathlib.Core.Path.ap Some (sym c.from.ensures) in
+    let e : digit_of (get_or text i 0) ≡ Some c.from.result = sym c.digit.ensures ∙ c.in-ok-d.was ∙ mathlib.Core.Path.ap Some (sym c.from.ensures) in
     (small text w i h c.loop-b.invariant.0 c.loop-b.invariant.1 c.from.result e, goes_on text w i h c.loop-b.invariant.0 c.loop-b.invariant.1 c.from.result e)
 
 pub returns : goal.returns

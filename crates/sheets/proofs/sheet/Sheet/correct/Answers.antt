@@ -5,9 +5,9 @@ use Rattle.sheets.specs.Rows.{samples, among, distinct}
 use Rattle.sheets.specs.Standing.{standing, Found, removed}
 use Rattle.sheets.specs.Sheets.{corrected, InAnyOrder}
 use Rattle.sheets.specs.Rewrite.{rewritten}
-use Rattle.sheets.proofs.Sheets.{has-angle, there, correct-ok, withdraw-ok, withdraw-absent, row_made, passed}
+use Rattle.sheets.proofs.Sheets.{has-angle, there, correct_ok, withdraw_ok, withdraw_absent, row_made, passed}
 use Rattle.sheets.proofs.Orders.{withdrawn-order, withdrawn-distinct, corrected-at, corrected-samples, rewrite-corrected, rewrite-distinct}
-use Rattle.shares.specs.Share.{sineShare, cosineShare}
+use Rattle.shares.specs.Share.{sine_share, cosine_share}
 use Rattle.sheets.proofs.sheet.Sheet.correct.Goals as goal
 
 abbrev none : Row
@@ -35,7 +35,7 @@ returns g c =
     let f = c.in-Some.ensures in
     let a = has-angle (g.R.Reader.steps s.reader c.args.word) (g.R.Reader.answer s.reader c.args.word) (c.in-ok-k.k, c.in-ok-k.y) (g.met.R.Reader.meaning s.reader c.args.word (omega arith)) c.in-ok-k.ensures in
     record {
-      answer = correct-ok _ a.0 a.1 (samples (standing s.table)) c.args.sample (there (standing s.table) c.args.sample c.in-Some.i f);
+      answer = correct_ok _ a.0 a.1 (samples (standing s.table)) c.args.sample (there (standing s.table) c.args.sample c.in-Some.i f);
       rows = c.rewrite.ensures.rows none ∙ rewrite-corrected (standing s.table) c.args.sample c.in-Some.i none c.args.speed c.args.word _ _ _ s.differ f (row_made _ c.in-ok-k.k c.in-ok-k.y c.args.sample c.args.speed c.args.word _ _ c.in-ok-k.ensures (passed _ _ (search rules) c.shares-of-sine.ensures.sine-is) (passed _ _ (search rules) c.shares-of-sine.ensures.cosine-is));
       reader = refl;
       same = tt;

@@ -5,8 +5,8 @@ use Rattle.std.proofs.lemmas.List.{length-map, length-take}
 use Rattle.sheets.specs.declared.row.Row.{Row}
 use Rattle.sheets.specs.Rows.{samples, among}
 use Rattle.sheets.specs.Standing.{standing}
-use Rattle.sheets.proofs.Sheets.{has-angle, taken-if, new-if, enter-taken, enter-full, enter-ok, count-samples, distinct_more, row_made, passed}
-use Rattle.shares.specs.Share.{sineShare, cosineShare}
+use Rattle.sheets.proofs.Sheets.{has-angle, taken_if, new_if, enter-taken, enter-full, enter-ok, count-samples, distinct_more, row_made, passed}
+use Rattle.shares.specs.Share.{sine_share, cosine_share}
 use Rattle.sheets.proofs.sheet.Sheet.enter.Given as given
 use Rattle.sheets.proofs.sheet.Sheet.enter.Goals as goal
 
@@ -18,7 +18,7 @@ returns-then-is-some g c =
     let s = c.args.self.now in
     let a = angled g s.reader c.args.word (c.in-ok-k.k, c.in-ok-k.y) (omega arith) c.in-ok-k.ensures in
     record {
-      answer = enter-taken _ a.0 a.1 (samples (standing s.table)) c.args.sample (taken-if c.place.result (standing s.table) c.args.sample c.place.ensures (sym c.if-is-some.ensures));
+      answer = enter-taken _ a.0 a.1 (samples (standing s.table)) c.args.sample (taken_if c.place.result (standing s.table) c.args.sample c.place.ensures (sym c.if-is-some.ensures));
       rows = refl;
       reader = refl;
       same = refl;
@@ -30,7 +30,7 @@ returns-then-count-eq256 g c =
     let a = angled g s.reader c.args.word (c.in-ok-k.k, c.in-ok-k.y) (omega arith) c.in-ok-k.ensures in
     let l : 256 ≤ length (samples (standing s.table)) = omega (arith, length-map (standing s.table) (λ (r : Row). r.sample), c.count.ensures) in
     record {
-      answer = enter-full _ a.0 a.1 (samples (standing s.table)) c.args.sample (new-if c.place.result (standing s.table) c.args.sample c.place.ensures (sym c.if-is-some.ensures)) l;
+      answer = enter-full _ a.0 a.1 (samples (standing s.table)) c.args.sample (new_if c.place.result (standing s.table) c.args.sample c.place.ensures (sym c.if-is-some.ensures)) l;
       rows = refl;
       reader = refl;
       same = refl;
@@ -42,7 +42,7 @@ invariant-of-self g c =
     let k = c.push.ensures.kept in (
       k.within,
       (
-        distinct_more (standing s.table) (standing c.push.new.self) _ c.push.ensures.rows s.differ (new-if c.place.result (standing s.table) c.args.sample c.place.ensures (sym c.if-is-some.ensures)),
+        distinct_more (standing s.table) (standing c.push.new.self) _ c.push.ensures.rows s.differ (new_if c.place.result (standing s.table) c.args.sample c.place.ensures (sym c.if-is-some.ensures)),
         (k.speed, (k.along, (k.across, tt))),
       ),
     )
@@ -53,7 +53,7 @@ returns g c =
     let a = angled g s.reader c.args.word (c.in-ok-k.k, c.in-ok-k.y) (omega arith) c.in-ok-k.ensures in
     let l : length (samples (standing s.table)) < 256 = omega (arith, length-map (standing s.table) (λ (r : Row). r.sample), c.count.ensures, length-take s.table.count s.table.rows, s.within) in
     record {
-      answer = enter-ok _ a.0 a.1 (samples (standing s.table)) c.args.sample (new-if c.place.result (standing s.table) c.args.sample c.place.ensures (sym c.if-is-some.ensures)) l;
+      answer = enter-ok _ a.0 a.1 (samples (standing s.table)) c.args.sample (new_if c.place.result (standing s.table) c.args.sample c.place.ensures (sym c.if-is-some.ensures)) l;
       rows = c.push.ensures.rows ∙ ap (λ r. standing s.table ++ r ∷ []) (row_made _ c.in-ok-k.k c.in-ok-k.y c.args.sample c.args.speed c.args.word _ _ c.in-ok-k.ensures (passed _ _ (search rules) c.shares-of-sine.ensures.sine-is) (passed _ _ (search rules) c.shares-of-sine.ensures.cosine-is));
       reader = refl;
       same = tt;

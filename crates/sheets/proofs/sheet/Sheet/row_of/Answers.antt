@@ -5,9 +5,9 @@ use Rattle.sheets.specs.Rows.{samples, among, distinct}
 use Rattle.sheets.specs.Standing.{standing, Found, removed}
 use Rattle.sheets.specs.Sheets.{corrected, InAnyOrder}
 use Rattle.sheets.specs.Rewrite.{rewritten}
-use Rattle.sheets.proofs.Sheets.{has-angle, there, correct-ok, withdraw-ok, withdraw-absent, row_made, passed}
+use Rattle.sheets.proofs.Sheets.{has-angle, there, correct_ok, withdraw_ok, withdraw_absent, row_made, passed}
 use Rattle.sheets.proofs.Orders.{withdrawn-order, withdrawn-distinct, corrected-at, corrected-samples}
-use Rattle.shares.specs.Share.{sineShare, cosineShare}
+use Rattle.shares.specs.Share.{sine_share, cosine_share}
 use Rattle.sheets.proofs.sheet.Sheet.row_of.Goals as goal
 
 pub at-requires : goal.at-requires

@@ -6,9 +6,9 @@ use Rattle.sheets.specs.Rows.{samples, among, distinct}
 use Rattle.sheets.specs.Standing.{standing, Found, removed}
 use Rattle.sheets.specs.Sheets.{corrected, InAnyOrder}
 use Rattle.sheets.specs.Rewrite.{rewritten}
-use Rattle.sheets.proofs.Sheets.{has-angle, there, correct-ok, withdraw-ok, withdraw-absent, row_made, passed}
+use Rattle.sheets.proofs.Sheets.{has-angle, there, correct_ok, withdraw_ok, withdraw_absent, row_made, passed}
 use Rattle.sheets.proofs.Orders.{withdrawn-order, withdrawn-distinct, corrected-at, corrected-samples}
-use Rattle.shares.specs.Share.{sineShare, cosineShare}
+use Rattle.shares.specs.Share.{sine_share, cosine_share}
 use Rattle.sheets.proofs.sheet.Sheet.withdraw.Goals as goal
 
 abbrev none : Row
@@ -20,7 +20,7 @@ remove-requires g c = let s = c.args.self.now in (omega (arith, c.in-Some.ensure
 pub returns-in-default : goal.returns-in-default
 returns-in-default g c =
     let s = c.args.self.now in
-    record { answer = withdraw-absent (samples (standing s.table)) c.args.sample c.in-default.ensures; rows = Permᴰ.refl (standing s.table); reader = refl; same = refl }
+    record { answer = withdraw_absent (samples (standing s.table)) c.args.sample c.in-default.ensures; rows = Permᴰ.refl (standing s.table); reader = refl; same = refl }
 
 pub invariant-of-self : goal.invariant-of-self
 invariant-of-self g c =
@@ -38,7 +38,7 @@ returns g c =
     let s = c.args.self.now in
     let f = c.in-Some.ensures in
     record {
-      answer = withdraw-ok (samples (standing s.table)) c.args.sample (there (standing s.table) c.args.sample c.in-Some.i f);
+      answer = withdraw_ok (samples (standing s.table)) c.args.sample (there (standing s.table) c.args.sample c.in-Some.i f);
       rows = rw (c.remove.ensures.rows none) (withdrawn-order (standing s.table) c.args.sample c.in-Some.i none s.differ f);
       reader = refl;
       same = tt;

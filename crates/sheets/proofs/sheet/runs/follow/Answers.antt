@@ -7,7 +7,7 @@ use Rattle.sheets.specs.Book.{asked, written}
 use Rattle.sheets.specs.Rows.{samples, among}
 use Rattle.sheets.specs.Sheets.{rows}
 use Rattle.sheets.specs.Runs.{Grown}
-use Rattle.sheets.proofs.Runs.{enter-grown, correct-grown, withdraw-grown}
+use Rattle.sheets.proofs.Runs.{enter-grown, correct_grown, withdraw_grown}
 use Rattle.sheets.proofs.sheet.runs.follow.Goals as goal
 
 pub returns-in-Enter : goal.returns-in-Enter
@@ -31,7 +31,7 @@ returns-in-Correct g c =
     record {
       answer = subst (λ q. c.correct.result ≡ asked steps (samples (rows s)) q) (sym c.in-Correct.is) c.correct.ensures.answer;
       grown = λ book old. subst (λ q. Grown answer (written steps book q) (rows c.correct.new.self)) (sym c.in-Correct.is)
-          (correct-grown steps answer book (rows s) (rows c.correct.new.self) c.correct.result c.in-Correct.e (search rules) c.correct.ensures.answer c.correct.ensures.rows old);
+          (correct_grown steps answer book (rows s) (rows c.correct.new.self) c.correct.result c.in-Correct.e (search rules) c.correct.ensures.answer c.correct.ensures.rows old);
       reader = c.correct.ensures.reader;
       same = c.correct.ensures.same;
     }
@@ -44,7 +44,7 @@ returns-in-Withdraw g c =
     record {
       answer = subst (λ q. c.withdraw.result ≡ asked steps (samples (rows s)) q) (sym c.in-Withdraw.is) c.withdraw.ensures.answer;
       grown = λ book old. subst (λ q. Grown answer (written steps book q) (rows c.withdraw.new.self)) (sym c.in-Withdraw.is)
-          (withdraw-grown steps answer book (rows s) (rows c.withdraw.new.self) c.withdraw.result c.in-Withdraw.sample c.withdraw.ensures.answer c.withdraw.ensures.rows old);
+          (withdraw_grown steps answer book (rows s) (rows c.withdraw.new.self) c.withdraw.result c.in-Withdraw.sample c.withdraw.ensures.answer c.withdraw.ensures.rows old);
       reader = c.withdraw.ensures.reader;
       same = c.withdraw.ensures.same;
     }

@@ -4,7 +4,7 @@ use Rattle.std.proofs.lemmas.Int.{to_z-of_z}
 use Rattle.sheets.specs.declared.row.Row.{Row}
 use Rattle.sheets.specs.Rewrite.{rewritten}
 use Rattle.sheets.proofs.Tables.{take-of-set, at-standing, moved-last}
-use Rattle.sheets.proofs.table.Table.rewrite.Goals as goal
+use Rattle.sheets.proofs.row_table.Table.rewrite.Goals as goal
 
 abbrev none : Row
 none = record { sample = 0; speed = 0; word = 0; sine = pos 0; cosine = pos 0 }

@@ -2,7 +2,7 @@
 ghost use Rattle.std.specs.Prelude.{◌≡◌, ℕ, ◌+◌, ◌-◌, ◌*◌, ◌^◌, ◌<◌, ◌≤◌, false, [], ◌∷◌, ◌++◌, length, ℤ, pos, ◌*ℤ◌, MatchOption, slice_index_or, slice_set, unsigned_abs};
 ghost use Rattle.sheets.specs.declared.row.Row.{Row};
 ghost use Rattle.sheets.specs.Rewrite.{rewritten};
-ghost use Rattle.sheets.specs.Rows.{among, samples, speedOf, alongOf, acrossOf};
+ghost use Rattle.sheets.specs.Rows.{among, samples, speed_of, along_of, across_of};
 ghost use Rattle.sheets.specs.Standing.{standing, Found, removed, Kept};
 
 use crate::row::Row;
@@ -26,9 +26,9 @@ fn part(speed: u16, share: i32) -> i64
 // The totals of the rows, in one pass.
 fn totals_of(rows: &[Row]) -> Totals
     requires { length rows.now ≤ 256 }
-    ensures speed { result.speed ≡ speedOf rows.now }
-    ensures along { result.along ≡ alongOf rows.now }
-    ensures across { result.across ≡ acrossOf rows.now }
+    ensures speed { result.speed ≡ speed_of rows.now }
+    ensures along { result.along ≡ along_of rows.now }
+    ensures across { result.across ≡ across_of rows.now }
 {
     let mut speed: u32 = 0;
     let mut along: i64 = 0;

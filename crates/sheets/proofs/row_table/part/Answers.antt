@@ -1,7 +1,7 @@
 use Rattle.std.proofs.Common.{◌≡◌, pos, ◌*ℤ◌, refl, arith, w64, SFits}
 use Rattle.std.proofs.lemmas.Int.{to_z-of_z}
 use Rattle.sheets.proofs.Ints.{part-size, small-fits, shares-back}
-use Rattle.sheets.proofs.table.part.Goals as goal
+use Rattle.sheets.proofs.row_table.part.Goals as goal
 
 fits : (c : goal.Start) → SFits w64 (pos c.args.speed *ℤ c.args.share)
 fits c = small-fits _ (omega (arith, part-size c.args.speed c.args.share c.ranges.speed c.ranges.share))

@@ -3,8 +3,8 @@ use Rattle.std.proofs.lemmas.List.{take_all}
 use Rattle.std.proofs.lemmas.List.Sums.{fold_more, sum_by_more}
 use Rattle.std.proofs.lemmas.Int.{ints, to_z-of_z}
 use Rattle.sheets.specs.declared.row.Row.{Row}
-use Rattle.sheets.specs.Rows.{speedOf, alongOf, acrossOf}
-use Rattle.sheets.proofs.table.totals_of.Goals as goal
+use Rattle.sheets.specs.Rows.{speed_of, along_of, across_of}
+use Rattle.sheets.proofs.row_table.totals_of.Goals as goal
 
 abbrev none : Row
 none = record { sample = 0; speed = 0; word = 0; sine = pos 0; cosine = pos 0 }
@@ -48,4 +48,4 @@ loop-row-preserved c =
 pub returns : goal.returns
 returns c =
     let e : take c.loop-row.row-index c.args.rows.now ≡ c.args.rows.now = take_all _ _ (omega arith) in
-    record { speed = c.loop-row.invariant.4 ∙ ap speedOf e; along = c.loop-row.invariant.5 ∙ ap alongOf e; across = c.loop-row.invariant.6 ∙ ap acrossOf e }
+    record { speed = c.loop-row.invariant.4 ∙ ap speed_of e; along = c.loop-row.invariant.5 ∙ ap along_of e; across = c.loop-row.invariant.6 ∙ ap across_of e }

@@ -4,20 +4,20 @@ use Rattle.sheets.specs.declared.row.Row.{Row}
 use Rattle.sheets.specs.Rows.{samples, among}
 use Rattle.sheets.proofs.Bools.{absent-among}
 use Rattle.sheets.specs.Standing.{standing, Found}
-use Rattle.sheets.proofs.table.Table.place.Goals as goal
+use Rattle.sheets.proofs.row_table.Table.place.Goals as goal
 
-sample-at : (rows : List Row) (i : ℕ) (d : Row) → i < length rows → get_or (samples rows) i 0 ≡ (get_or rows i d).sample
-sample-at rows i d h = get_or-map (λ r. r.sample) rows i d 0 h
+sample_at : (rows : List Row) (i : ℕ) (d : Row) → i < length rows → get_or (samples rows) i 0 ≡ (get_or rows i d).sample
+sample_at rows i d h = get_or-map (λ r. r.sample) rows i d 0 h
 
 abbrev none : Row
 none = record { sample = 0; speed = 0; word = 0; sine = pos 0; cosine = pos 0 }
 
 pub loop-i-preserved : goal.loop-i-preserved
-loop-i-preserved c = below_more _ _ c.loop-i.invariant (let e = sample-at c.standing-rows.result.now c.loop-i.i none c.loop-i-test.true in λ h. c.if-row-sample.false (sym e ∙ h))
+loop-i-preserved c = below_more _ _ c.loop-i.invariant (let e = sample_at c.standing-rows.result.now c.loop-i.i none c.loop-i-test.true in λ h. c.if-row-sample.false (sym e ∙ h))
 
 pub returns-then-row-sample : goal.returns-then-row-sample
 returns-then-row-sample c =
-    let e = sample-at c.standing-rows.result.now c.loop-i.i none c.loop-i-test.true in
+    let e = sample_at c.standing-rows.result.now c.loop-i.i none c.loop-i-test.true in
     subst (λ l. Found c.args.sample l c.loop-i.i) c.standing-rows.ensures (record { within = c.loop-i-test.true; same = e ∙ c.if-row-sample.true })
 
 pub returns : goal.returns
