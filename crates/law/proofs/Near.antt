@@ -91,10 +91,8 @@ module _ (steps : ℕ → Steps) (answer : ℕ → Reading) (keeps : (w : ℕ) �
       record {
         order = o;
         count = sym (length-map rows plain) ∙ length-order o;
+        speed = s ∙ sym (sum_by-map (λ (e : Entry). e.speed) plain rows) ∙ sum_by-order (λ (e : Entry). e.speed) o;
         shares = all-order (Shared answer) (Permᴰ.symm g.order) (shared-all book g.words (standing-angled steps calls));
-        near = record {
-          speed = s ∙ sym (sum_by-map (λ (e : Entry). e.speed) plain rows) ∙ sum_by-order (λ (e : Entry). e.speed) o;
-          along = total-near exact_cosine read_cosine cosine-kept (λ r. r.cosine) (λ e. refl) rows book totals.along g a;
-          across = total-near exact_sine read_sine sine-kept (λ r. r.sine) (λ e. refl) rows book totals.across g c;
-        };
+        along = total-near exact_cosine read_cosine cosine-kept (λ r. r.cosine) (λ e. refl) rows book totals.along g a;
+        across = total-near exact_sine read_sine sine-kept (λ r. r.sine) (λ e. refl) rows book totals.across g c;
       }

@@ -47,18 +47,14 @@ exact_across steps book = exact_total exact_sine steps book
 abbrev pub Shared : (ℕ → Reading) → Row → Type 0
 Shared answer r = (a : ℕ × Float) × (answer r.word ≡ Ok a) × (r.sine ≡ sine_share a.0 a.1) × (r.cosine ≡ cosine_share a.0 a.1)
 
--- totals near the exact ones of the rows standing after the calls: within 33 units for each cm/s standing
-pub record Near (steps : ℕ → Steps) (calls : List Call) (totals : Totals) : Type 0 where
-  pub speed : totals.speed ≡ cms (standing_after steps calls)
-  pub along : Within (integer totals.along) (exact_along steps (standing_after steps calls)) (whole (33 * cms (standing_after steps calls)))
-  pub across : Within (integer totals.across) (exact_across steps (standing_after steps calls)) (whole (33 * cms (standing_after steps calls)))
-
--- after the calls the rows are the book's, each with the shares of its reader's answer, and the totals are near
+-- after the calls the rows are the book's, and the totals near its exact ones: within 33 for each cm/s standing
 pub record Holds (steps : ℕ → Steps) (answer : ℕ → Reading) (calls : List Call) (rows : List Row) (totals : Totals) : Type 0 where
   pub order : InAnyOrder (map plain rows) (standing_after steps calls)
   pub count : length rows ≡ length (standing_after steps calls)
+  pub speed : totals.speed ≡ cms (standing_after steps calls)
   pub shares : All (Shared answer) rows
-  pub near : Near steps calls totals
+  pub along : Within (integer totals.along) (exact_along steps (standing_after steps calls)) (whole (33 * cms (standing_after steps calls)))
+  pub across : Within (integer totals.across) (exact_across steps (standing_after steps calls)) (whole (33 * cms (standing_after steps calls)))
 
 -- two words' steps are within 2 ^ -17 of each other, whole turns aside
 abbrev pub Agree : Steps → Steps → Type 0
@@ -75,8 +71,3 @@ Matched one other es fs = All (λ e. (f : Entry) × Has fs f × (f.sample ≡ e.
 pub record SameMotion (one : ℕ → Steps) (calls : List Call) (other : ℕ → Steps) (others : List Call) : Type 0 where
   pub there : Matched one other (standing_after one calls) (standing_after other others)
   pub back : Matched other one (standing_after other others) (standing_after one calls)
-
--- two sheets' totals differ by at most 871 units for each cm/s standing on the one, along and across
-pub record Agreeing (one : ℕ → Steps) (calls : List Call) (a b : Totals) : Type 0 where
-  pub along : Within (integer a.along) (integer b.along) (whole (871 * cms (standing_after one calls)))
-  pub across : Within (integer a.across) (integer b.across) (whole (871 * cms (standing_after one calls)))

@@ -1,7 +1,11 @@
 // Two sheets over any two readers, and so over every pile of mounts, after any calls.
+ghost use Rattle.std.specs.Prelude.{◌*◌};
+ghost use Rattle.exact.specs.Fraction.{whole, Within};
+ghost use Rattle.exact.specs.Value.{integer};
 ghost use Rattle.formulas.specs.Six.{Six};
+ghost use Rattle.sheets.specs.Book.{standing_after};
 ghost use Rattle.sheets.specs.Sheets.{rows, totals_of};
-ghost use Rattle.law.specs.Law.{Holds, SameMotion, Agreeing};
+ghost use Rattle.law.specs.Law.{Holds, SameMotion, cms};
 
 use readers::reader::Reader;
 use sheets::book::Call;
@@ -28,7 +32,8 @@ pub fn run_both<P: Reader, Q: Reader>(
 ) -> Both<P, Q>
     ensures one { Holds (P.Reader.steps one) (P.Reader.answer one) calls.now (rows result.one) (totals_of result.one) }
     ensures other { Holds (Q.Reader.steps other) (Q.Reader.answer other) others.now (rows result.other) (totals_of result.other) }
-    ensures agree { SameMotion (P.Reader.steps one) calls.now (Q.Reader.steps other) others.now → Agreeing (P.Reader.steps one) calls.now (totals_of result.one) (totals_of result.other) }
+    ensures along { SameMotion (P.Reader.steps one) calls.now (Q.Reader.steps other) others.now → Within (integer (totals_of result.one).along) (integer (totals_of result.other).along) (whole (871 * cms (standing_after (P.Reader.steps one) calls.now))) }
+    ensures across { SameMotion (P.Reader.steps one) calls.now (Q.Reader.steps other) others.now → Within (integer (totals_of result.one).across) (integer (totals_of result.other).across) (whole (871 * cms (standing_after (P.Reader.steps one) calls.now))) }
     ensures functions { Six }
 {
     let one = run(one, calls);

@@ -5,4 +5,3 @@ pub mod Cases
 pub mod Signs
 pub mod Wholes
 pub mod Narrows
-pub mod Counted

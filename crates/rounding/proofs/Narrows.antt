@@ -2,15 +2,14 @@
 use Rattle.std.proofs.Common.{◌≡◌, ℕ, zero, suc, ◌+◌, ◌-◌, ◌*◌, ◌/◌, ◌%◌, ◌^◌, ◌<◌, ◌≤◌, Bool, true, false, cond, not, T, ltb, leb, sym, refl, ap, ◌∙◌, subst, le_trans, le_of_eq, lt_of_lt_of_le, mul-le-mul_right, zero-lt-suc, mul_assoc, div-lt_iff_lt-mul, le_antisymm, mul-lt-mul_of_pos_right, mul-pos, lt_of_not-le, le-div_iff_mul-le, not-le_of_lt, arith, lit<, le→leb, ltb→lt, lt→ltb, nltb→le, pow_pos, pow_mono, pow-add, shl_lt}
 use Prim.Native.Nat.{compare, Ordering}
 use lib.Count.{count_trailing_zeros}
-use lib.Ieee.{Float, Format, binary32, binary64, nan, inf, fin, prec, emax, low, up, down, size, nearest, odd, units, round, of_fields, of_bits, to_bits, fits, is_nan, eq, ne}
+use lib.Ieee.{Float, Format, binary32, binary64, nan, inf, fin, prec, low, up, down, size, nearest, odd, units, round, of_fields, of_bits, to_bits, fits}
 use lib.Ieee.Exact.{HasValue}
 use lib.Ieee.Digits.{size-lt, size-le}
-use lib.Ieee.Fits.{round_is, down_pos, nearest-le, round-fits, nan-fits, inf-fits}
-use lib.Ieee.Bits.{is_true, is_false, of_bits-to_bits, to_bits-of_bits}
+use lib.Ieee.Fits.{round_is, down_pos, nearest-le}
+use lib.Ieee.Bits.{is_true, is_false, of_bits-to_bits}
 use lib.Ieee.Nearest.{closest, closest_same, div_same, nearest-ge}
 use lib.Ieee.Scale.{round_same}
 use Rattle.std.specs.Float.{round_to_format}
-use Rattle.std.proofs.num.Patterns.{differs}
 use Rattle.rounding.specs.Round.{exponent_field}
 use Rattle.rounding.specs.Narrowing.{narrow_bits}
 use Rattle.rounding.proofs.Fields.{fields, sign, pattern-is}
@@ -209,9 +208,6 @@ narrow-pattern b lo hi = sym (valued binary32 (of_bits binary64 b) s (m * 2 ^ (j
     c-is = ap (λ z. cond (leb 9223372036854775808 b) 2147483648 0 + closest z unit) rest-is ∙ ap (λ z. cond (leb 9223372036854775808 b) 2147483648 0 + z) (closest-shift k m)
 
 -- ---- the code's steps
-no_nan : (x : Float) → T (not (is_nan x)) → ne x x ≡ true → ⊥
-no_nan x n h = subst (λ b. T (not b)) (sym (differs x) ∙ h) n
-
 pub with-sign : (b r : ℕ) → 9223372036854775808 ≤ b → r ≡ closest (b % 9223372036854775808 - 4035225266123964416) unit → 2147483648 + r ≡ narrow_bits b
 unfolding narrow_bits
 with-sign b r h e = ap (λ z. 2147483648 + z) e ∙ sym (ap (λ t. cond t 2147483648 0 + closest (b % 9223372036854775808 - 4035225266123964416) unit) (is_true (leb 9223372036854775808 b) (le→leb 9223372036854775808 b h)))
@@ -222,54 +218,5 @@ without_sign b r h e =
     e ∙ sym (native.Mathlib.Nat.zero-add (closest (b % 9223372036854775808 - 4035225266123964416) unit))
     ∙ sym (ap (λ t. cond t 2147483648 0 + closest (b % 9223372036854775808 - 4035225266123964416) unit) (is_false (leb 9223372036854775808 b) (lib.Arith.lt→nleb 9223372036854775808 b h)))
 
-pub signed-joined : (b r : ℕ) → b < 18446744073709551616 → r ≡ closest (b % 9223372036854775808 - 4035225266123964416) unit → b / 9223372036854775808 * 2147483648 + r ≡ narrow_bits b
-signed-joined b r h e = go (ltb b 9223372036854775808) (ltb→lt b 9223372036854775808) (nltb→le b 9223372036854775808)
-  where
-    go : (t : Bool) → (T t → b < 9223372036854775808) → (T (not t) → 9223372036854775808 ≤ b) → b / 9223372036854775808 * 2147483648 + r ≡ narrow_bits b
-    go true f g = let l = f tt in let z : b / 9223372036854775808 * 2147483648 + r ≡ r = omega arith in z ∙ without_sign b r l e
-    go false f g = let l = g tt in let z : b / 9223372036854775808 * 2147483648 + r ≡ 2147483648 + r = omega arith in z ∙ with-sign b r l e
-
--- what is rounded is no NaN
-odd_number : (d : ℕ) (s : Bool) (q k l : ℕ) → T (not (is_nan (odd d s q k l)))
-unfolding odd is_nan
-odd_number d s zero k l = tt
-odd_number d s (suc q) k l = tt
-
-round_number : (f : Format) (s : Bool) (n d : ℕ) → T (not (is_nan (round f s n d)))
-unfolding round units is_nan
-round_number f s n d = go (ltb (q * 2 ^ k) (2 ^ (low f + suc (emax f))))
-  where
-    k : ℕ
-    k = size (n * 2 ^ low f / d) - prec f
-
-    q : ℕ
-    q = closest (n * 2 ^ low f) (d * 2 ^ k)
-
-    go : (t : Bool) → T (not (is_nan (cond t (odd (suc (prec f)) s q k (low f)) (inf s))))
-    go true = odd_number (suc (prec f)) s q k (low f)
-    go false = tt
-
-nearest-number : (f : Format) (x : Float) → T (not (is_nan x)) → T (not (is_nan (round_to_format f x)))
-unfolding round_to_format is_nan
-nearest-number f nan h = h
-nearest-number f (inf s) h = tt
-nearest-number f (fin s m e) h = round_number f s (m * up e) (down e)
-
--- a NaN's pattern
-pub nan-word : (x : Float) → ne x x ≡ true → ◌≡◌ {A = ℕ} 2143289344 (to_bits binary32 (round_to_format binary32 x))
-unfolding ne eq round_to_format to_bits is_nan
-nan-word nan h = refl
-nan-word (inf s) h = absurd (no_nan (inf s) tt h)
-nan-word (fin s m e) h = absurd (no_nan (fin s m e) tt h)
-
--- the pattern of the nearest f32
-pub narrow-joined : (x : Float) (c : ℕ) → T (fits binary64 x) → T (not (is_nan x)) → 897 ≤ exponent_field binary64 (to_bits binary64 x) → exponent_field binary64 (to_bits binary64 x) ≤ 1150 → c < 4294967296 → c ≡ narrow_bits (to_bits binary64 x) → c ≡ to_bits binary32 (round_to_format binary32 x)
-narrow-joined x c h n lo hi l C =
-    let e : of_bits binary32 c ≡ round_to_format binary32 x = ap (of_bits binary32) C ∙ narrow-pattern (to_bits binary64 x) lo hi ∙ ap (round_to_format binary32) (of_bits-to_bits binary64 x h) in
-    sym (to_bits-of_bits binary32 c l (subst (λ z. T (not (is_nan z))) (sym e) (nearest-number binary32 x n))) ∙ ap (to_bits binary32) e
-
-pub nearest-fits : (f : Format) (x : Float) → T (fits f (round_to_format f x))
-unfolding round_to_format
-nearest-fits f nan = nan-fits f
-nearest-fits f (inf s) = inf-fits f s
-nearest-fits f (fin s m e) = round-fits f s (m * up e) (down e)
+pub narrow-joined : (x r : Float) (b c : ℕ) → T (fits binary64 x) → b ≡ to_bits binary64 x → 897 ≤ exponent_field binary64 b → exponent_field binary64 b ≤ 1150 → c ≡ narrow_bits b → r ≡ of_bits binary32 c → r ≡ round_to_format binary32 x
+narrow-joined x r b c h B lo hi C R = R ∙ ap (of_bits binary32) C ∙ narrow-pattern b lo hi ∙ ap (λ z. round_to_format binary32 (of_bits binary64 z)) B ∙ ap (round_to_format binary32) (of_bits-to_bits binary64 x h)

@@ -1,10 +1,10 @@
-ghost use Rattle.std.specs.Prelude.{◌≡◌, ◌^◌, ◌<◌, ◌≤◌, to_bits};
+ghost use Rattle.std.specs.Prelude.{◌≡◌, ◌<◌, ◌≤◌};
 ghost use Rattle.std.specs.Float.Ieee.Nearest.{closest};
 ghost use Rattle.std.specs.Float.{round_to_format, binary32, binary64};
 ghost use Rattle.rounding.specs.Round.{exponent_field};
 ghost use Rattle.rounding.specs.Narrowing.{narrow_bits};
 
-use std::num::{f32_from_bits_with_nan, f32_to_bits_with_nan, nearest_f64_to_f32_with_nan};
+use std::num::{f32_from_bits_with_nan, f64_to_bits_with_nan, nearest_f64_to_f32_with_nan};
 
 // An f64 has 29 digits more than an f32.
 const UNIT: u64 = 1 << 29;
@@ -12,15 +12,19 @@ const UNIT: u64 = 1 << 29;
 // The bias of an f64 is larger by 896.
 const BIAS: u64 = 896 << 52;
 
-// The weight of an f64's sign.
-const SIGN: u64 = 1 << 63;
-
-// n units of 2^29, to the nearest whole number, ties to even: half a unit more, less one where the number is even.
+// n units of 2^29, to the nearest whole number, ties to even.
 fn nearest_even(n: u64) -> u64
-    requires { n < 2 ^ 63 }
     ensures { result ≡ closest n 536870912 }
 {
-    (n + (UNIT / 2 - 1) + n / UNIT % 2) / UNIT
+    let kept = n / UNIT;
+    let lost = n % UNIT;
+    if lost < UNIT / 2 {
+        kept
+    } else if lost > UNIT / 2 {
+        kept + 1
+    } else {
+        kept + kept % 2
+    }
 }
 
 // The pattern of the nearest f32, where that is a normal one or an infinity.
@@ -28,24 +32,12 @@ fn narrow_bits(i: u64) -> u32
     requires { (897 ≤ exponent_field binary64 i) × (exponent_field binary64 i ≤ 1150) }
     ensures { result ≡ narrow_bits i }
 {
-    let rest = nearest_even(i % SIGN - BIAS);
-    (i / SIGN * 0x8000_0000 + rest) as u32
-}
-
-// The pattern of the f32 nearest to x, ties to even; that of a NaN is 7fc00000.
-pub fn narrow_word(x: f64) -> u32
-    ensures { result ≡ to_bits binary32 (round_to_format binary32 x) }
-{
-    if x != x {
-        return 0x7fc0_0000;
-    }
-    let i = x.to_bits();
-    let size = i % SIGN;
-    // From 2^-126 on and below 2^128.
-    if size >= 897 << 52 && size < 1151 << 52 {
-        narrow_bits(i)
+    let size = i % 0x8000_0000_0000_0000;
+    let rest = nearest_even(size - BIAS);
+    if i >= 0x8000_0000_0000_0000 {
+        (0x8000_0000 + rest) as u32
     } else {
-        f32_to_bits_with_nan(nearest_f64_to_f32_with_nan(x))
+        rest as u32
     }
 }
 
@@ -53,5 +45,12 @@ pub fn narrow_word(x: f64) -> u32
 pub fn narrow(x: f64) -> f32
     ensures { result ≡ round_to_format binary32 x }
 {
-    f32_from_bits_with_nan(narrow_word(x))
+    let i = f64_to_bits_with_nan(x);
+    let field = i % 0x8000_0000_0000_0000 >> 52;
+    // From 2^-126 on and below 2^128.
+    if field >= 897 && field <= 1150 {
+        f32_from_bits_with_nan(narrow_bits(i))
+    } else {
+        nearest_f64_to_f32_with_nan(x)
+    }
 }

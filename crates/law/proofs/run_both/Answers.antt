@@ -23,9 +23,7 @@ returns g c =
     record {
       one = h;
       other = k;
-      agree = λ same. record {
-        along = along-apart one calls other others d d' same (integer (totals_of p).along) (integer (totals_of q).along) h.near.along k.near.along;
-        across = across-apart one calls other others d d' same (integer (totals_of p).across) (integer (totals_of q).across) h.near.across k.near.across;
-      };
+      along = λ same. along-apart one calls other others d d' same (integer (totals_of p).along) (integer (totals_of q).along) h.along k.along;
+      across = λ same. across-apart one calls other others d d' same (integer (totals_of p).across) (integer (totals_of q).across) h.across k.across;
       functions = six;
     }

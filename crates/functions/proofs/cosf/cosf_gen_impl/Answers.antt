@@ -1,18 +1,10 @@
-use Rattle.std.proofs.Common.{◌≡◌, ◌%◌, ◌^◌, ◌<◌, sym, ap, ◌∙◌, arith}
-use lib.Ieee.{nan_bits, binary32, of_bits, to_bits}
+use Rattle.std.proofs.Common.{◌≡◌, sym, ap, ◌∙◌, arith}
+use lib.Ieee.{nan_bits, binary32, of_bits, of_fields}
 use Rattle.reducers.specs.Reduce.{reduce}
-use Rattle.formulas.specs.Words.{size_bits, fmla, narrowed, minus_tiny, one, cosine_at}
-use Rattle.formulas.specs.Radians.{infinite, cos_near, cos_of}
+use Rattle.formulas.specs.Words.{fmla, narrowed, minus_tiny, one, cosine_at}
+use Rattle.formulas.specs.Radians.{cos_near, cos_of}
 use Rattle.formulas.proofs.Ways.{cosf-line, cosf-near, cosf-nan, cosf-far}
-use Rattle.functions.proofs.Wording.{size_is, size_not_finite}
 use Rattle.functions.proofs.cosf.cosf_gen_impl.Goals as goal
-
-pub returns-then-x-abs-ge-INFINITE : goal.returns-then-x-abs-ge-INFINITE
-unfolding to_bits
-returns-then-x-abs-ge-INFINITE c = sym (ap (to_bits binary32) (cosf-nan (size_bits (of_bits binary32 c.args.word)) (size_not_finite c.args.word c.ranges.word.fits c.if-x-abs-ge-INFINITE.true)))
-
-pub widened-xd-requires : goal.widened-xd-requires
-widened-xd-requires c = omega (arith, c.if-x-abs-ge-INFINITE.false)
 
 pub float-from-bits-f-fmla : goal.float-from-bits-f-fmla
 unfolding nan_bits
@@ -20,15 +12,19 @@ float-from-bits-f-fmla c = tt
 
 pub returns-then-x-abs-lt964689920 : goal.returns-then-x-abs-lt964689920
 returns-then-x-abs-lt964689920 c =
-    let w = c.args.word in
-    c.narrow-word.ensures ∙ ap (to_bits binary32) (ap narrowed (c.f-fmla.ensures ∙ ap (λ z. fmla z minus_tiny one) c.widened-xd.ensures) ∙ sym (cosf-line (w % 2147483648) (omega arith)) ∙ ap cos_of (sym (size_is w c.ranges.word.fits c.if-x-abs-ge-INFINITE.false)))
+    c.narrow.ensures ∙ ap narrowed (c.f-fmla.ensures ∙ ap (λ z. fmla z minus_tiny one) (c.f32-to-f64-with-nan-xd.ensures ∙ c.f32-from-bits-with-nan.ensures))
+    ∙ sym (cosf-line c.size-bits-x-abs.result (omega arith)) ∙ ap cos_of c.size-bits-x-abs.ensures
 
 pub returns-then-x-abs-le1044975579 : goal.returns-then-x-abs-le1044975579
 returns-then-x-abs-le1044975579 c =
-    let w = c.args.word in
-    c.narrow-word-then-x-abs-le1044975579.ensures ∙ ap (to_bits binary32) (ap narrowed (c.cos-near.ensures ∙ ap cos_near c.widened-xd.ensures) ∙ sym (cosf-near (w % 2147483648) (omega arith) (omega arith)) ∙ ap cos_of (sym (size_is w c.ranges.word.fits c.if-x-abs-ge-INFINITE.false)))
+    c.narrow-then-x-abs-le1044975579.ensures ∙ ap narrowed (c.cos-near.ensures ∙ ap cos_near (c.f32-to-f64-with-nan-xd.ensures ∙ c.f32-from-bits-with-nan.ensures))
+    ∙ sym (cosf-near c.size-bits-x-abs.result (omega arith) (omega arith)) ∙ ap cos_of c.size-bits-x-abs.ensures
+
+pub returns-then-x-abs-ge-INFINITE : goal.returns-then-x-abs-ge-INFINITE
+unfolding of_bits of_fields
+returns-then-x-abs-ge-INFINITE c = sym (cosf-nan c.size-bits-x-abs.result (omega arith)) ∙ ap cos_of c.size-bits-x-abs.ensures
 
 pub returns : goal.returns
 returns c =
-    let w = c.args.word in
-    c.narrow-word-2.ensures ∙ ap (to_bits binary32) (ap narrowed (c.cos-by-table.ensures ∙ ap (λ z. cosine_at (reduce z (w % 2147483648))) c.widened-xd.ensures) ∙ sym (cosf-far (w % 2147483648) (omega arith) (omega arith)) ∙ ap cos_of (sym (size_is w c.ranges.word.fits c.if-x-abs-ge-INFINITE.false)))
+    c.narrow-2.ensures ∙ ap narrowed (c.cos-by-table.ensures ∙ ap (λ z. cosine_at (reduce z c.size-bits-x-abs.result)) (c.f32-to-f64-with-nan-xd.ensures ∙ c.f32-from-bits-with-nan.ensures))
+    ∙ sym (cosf-far c.size-bits-x-abs.result (omega arith) (omega arith)) ∙ ap cos_of c.size-bits-x-abs.ensures

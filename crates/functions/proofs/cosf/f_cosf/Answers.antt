@@ -5,10 +5,9 @@ use Rattle.formulas.specs.Radians.{cosf}
 use Rattle.formulas.proofs.Floats.{near-float}
 use Rattle.formulas.proofs.Radians.{radian-cosine}
 use Rattle.reducers.specs.Exact.{radian_steps}
-use Rattle.functions.proofs.Wording.{cosf-float}
 use Rattle.functions.proofs.cosf.f_cosf.Goals as goal
 
 pub returns : goal.returns
 returns c =
-    let e = cosf-float c.args.x c.f32-from-bits-with-nan.result c.f32-to-bits-with-nan.result c.cosf-gen-impl.result (search rules) c.f32-to-bits-with-nan.ensures c.cosf-gen-impl.ensures c.f32-from-bits-with-nan.ensures in
+    let e = c.cosf-gen-impl.ensures in
     record { is = e; near = subst (λ r. Near c.args.x r (exact_cosine (radian_steps c.args.x))) (sym e) (near-float cosf radian_steps exact_cosine radian-cosine c.args.x (search rules)) }

@@ -4,10 +4,9 @@ use Rattle.formulas.specs.Distance.{Near, half_turn_steps}
 use Rattle.formulas.specs.HalfTurns.{cospif}
 use Rattle.formulas.proofs.Floats.{near-float}
 use Rattle.formulas.proofs.HalfTurns.{half-turn-cosine}
-use Rattle.functions.proofs.Wording.{cospif-float}
 use Rattle.functions.proofs.cospif.f_cospif.Goals as goal
 
 pub returns : goal.returns
 returns c =
-    let e = cospif-float c.args.x c.f32-from-bits-with-nan.result c.f32-to-bits-with-nan.result c.cospif-gen-impl.result (search rules) c.f32-to-bits-with-nan.ensures c.cospif-gen-impl.ensures c.f32-from-bits-with-nan.ensures in
+    let e = c.cospif-gen-impl.ensures in
     record { is = e; near = subst (λ r. Near c.args.x r (exact_cosine (half_turn_steps c.args.x))) (sym e) (near-float cospif half_turn_steps exact_cosine half-turn-cosine c.args.x (search rules)) }

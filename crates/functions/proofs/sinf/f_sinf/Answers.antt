@@ -5,10 +5,9 @@ use Rattle.formulas.specs.Radians.{sinf}
 use Rattle.formulas.proofs.Floats.{near-float}
 use Rattle.formulas.proofs.Radians.{radian-sine}
 use Rattle.reducers.specs.Exact.{radian_steps}
-use Rattle.functions.proofs.Wording.{sinf-float}
 use Rattle.functions.proofs.sinf.f_sinf.Goals as goal
 
 pub returns : goal.returns
 returns c =
-    let e = sinf-float c.args.x c.f32-from-bits-with-nan.result c.f32-to-bits-with-nan.result c.sinf-gen-impl.result (search rules) c.f32-to-bits-with-nan.ensures c.sinf-gen-impl.ensures c.f32-from-bits-with-nan.ensures in
+    let e = c.sinf-gen-impl.ensures in
     record { is = e; near = subst (λ r. Near c.args.x r (exact_sine (radian_steps c.args.x))) (sym e) (near-float sinf radian_steps exact_sine radian-sine c.args.x (search rules)) }

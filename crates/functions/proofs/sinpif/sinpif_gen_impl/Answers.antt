@@ -1,23 +1,15 @@
-use Rattle.std.proofs.Common.{◌≡◌, ◌%◌, true, false, ◌||◌, leb, sym, ap, ◌∙◌, arith}
-use lib.Ieee.{nan_bits, binary32, binary64, mul, of_bits, to_bits}
+use Rattle.std.proofs.Common.{◌≡◌, true, false, ◌||◌, leb, sym, ap, ◌∙◌, arith}
+use lib.Ieee.{nan_bits, binary64, mul, of_bits, of_fields}
 use Rattle.rounding.specs.Bits.{whole_bits}
 use Rattle.reducers.specs.Reduce.{reduce_quarter}
 use Rattle.formulas.specs.Words.{size_bits, fmla, narrowed}
 use Rattle.formulas.specs.HalfTurns.{pi, minus_pi3_over6, sinpi_near, sine_by, by_quarter}
 use Rattle.formulas.proofs.Ways.{sinpif-zero, sinpif-tiny, sinpif-near, sinpif-nan, sinpif-rest, large-whole, digits-whole, not_whole}
-use Rattle.functions.proofs.Wording.{clean, back, size_is, size_not_finite}
 use Rattle.functions.proofs.sinpif.sinpif_gen_impl.Goals as goal
 use Rattle.functions.proofs.sinpif.sinpif_gen_impl.Goals.{then-x-abs-ge1258291200-via-then-x-abs-ge1258291200, then-x-abs-ge1258291200-via-else-x-abs-ge1258291200+then-is-integerf}
 
-pub returns-then-x-abs-ge-INFINITE : goal.returns-then-x-abs-ge-INFINITE
-unfolding to_bits
-returns-then-x-abs-ge-INFINITE c = sym (ap (to_bits binary32) (sinpif-nan (of_bits binary32 c.args.word) (size_not_finite c.args.word c.ranges.word.fits c.if-x-abs-ge-INFINITE.true)))
-
 pub returns-then-x-abs-eq0 : goal.returns-then-x-abs-eq0
-returns-then-x-abs-eq0 c =
-    let w = c.args.word in
-    let s = size_is w c.ranges.word.fits c.if-x-abs-ge-INFINITE.false in
-    sym (ap (to_bits binary32) (sinpif-zero (of_bits binary32 w) (s ∙ c.if-x-abs-eq0.true)) ∙ back w c.ranges.word.fits c.if-x-abs-ge-INFINITE.false)
+returns-then-x-abs-eq0 c = sym (sinpif-zero c.args.x (omega arith))
 
 pub float-from-bits-f-fmla : goal.float-from-bits-f-fmla
 unfolding nan_bits
@@ -29,39 +21,29 @@ float-from-bits-f-fmla-then-x-abs-lt897589542 c = tt
 
 pub returns-then-x-abs-lt897589542 : goal.returns-then-x-abs-lt897589542
 returns-then-x-abs-lt897589542 c =
-    let w = c.args.word in
-    let x = of_bits binary32 w in
-    let s : size_bits x ≡ w % 2147483648 = size_is w c.ranges.word.fits c.if-x-abs-ge-INFINITE.false in
-    c.narrow-word.ensures ∙ ap (to_bits binary32) (ap (λ z. narrowed (mul binary64 c.widened-xd.result z)) c.f-fmla-p.ensures
-    ∙ ap (λ z. narrowed (mul binary64 z (fmla (mul binary64 z z) minus_pi3_over6 pi))) c.widened-xd.ensures
-    ∙ sym (sinpif-tiny x (λ e. omega arith) (omega arith)))
+    c.narrow.ensures ∙ ap (λ z. narrowed (mul binary64 c.f32-to-f64-with-nan-xd.result z)) c.f-fmla-p.ensures
+    ∙ ap (λ z. narrowed (mul binary64 z (fmla (mul binary64 z z) minus_pi3_over6 pi))) c.f32-to-f64-with-nan-xd.ensures
+    ∙ sym (sinpif-tiny c.args.x (λ e. omega arith) (omega arith))
 
 pub returns-then-x-abs-le1031798784 : goal.returns-then-x-abs-le1031798784
 returns-then-x-abs-le1031798784 c =
-    let w = c.args.word in
-    let x = of_bits binary32 w in
-    let s : size_bits x ≡ w % 2147483648 = size_is w c.ranges.word.fits c.if-x-abs-ge-INFINITE.false in
-    c.narrow-word-then-x-abs-le1031798784.ensures ∙ ap (to_bits binary32) (ap narrowed (c.sinpi-near.ensures ∙ ap sinpi_near c.widened-xd.ensures)
-    ∙ sym (sinpif-near x (omega arith) (omega arith)))
+    c.narrow-then-x-abs-le1031798784.ensures ∙ ap narrowed (c.sinpi-near.ensures ∙ ap sinpi_near c.f32-to-f64-with-nan-xd.ensures)
+    ∙ sym (sinpif-near c.args.x (omega arith) (omega arith))
 
-pub float-from-bits-word : goal.float-from-bits-word
-float-from-bits-word c = clean c.args.word c.if-x-abs-ge-INFINITE.false
+pub returns-then-x-abs-ge-INFINITE : goal.returns-then-x-abs-ge-INFINITE
+unfolding of_bits of_fields
+returns-then-x-abs-ge-INFINITE c = sym (sinpif-nan c.args.x (omega arith))
 
 pub returns-then-x-abs-ge1258291200 : goal.returns-then-x-abs-ge1258291200
 returns-then-x-abs-ge1258291200 c =
-    let w = c.args.word in
-    let x = of_bits binary32 w in
-    let s : size_bits x ≡ w % 2147483648 = size_is w c.ranges.word.fits c.if-x-abs-ge-INFINITE.false in
+    let x = c.args.x in
     let e : (leb 0x4b000000 (size_bits x) || whole_bits x) ≡ true = elim c.then-x-abs-ge1258291200.branch [
-      | then-x-abs-ge1258291200-via-then-x-abs-ge1258291200 v ↦ large-whole (size_bits x) (whole_bits x) (omega (arith, s, v.if-x-abs-ge1258291200.true))
-      | then-x-abs-ge1258291200-via-else-x-abs-ge1258291200+then-is-integerf v ↦ digits-whole (size_bits x) (whole_bits x) (sym v.is-integerf.ensures.is ∙ v.if-is-integerf.true)
+      | then-x-abs-ge1258291200-via-then-x-abs-ge1258291200 w ↦ large-whole (size_bits x) (whole_bits x) (omega (arith, w.if-x-abs-ge1258291200.true))
+      | then-x-abs-ge1258291200-via-else-x-abs-ge1258291200+then-is-integerf w ↦ digits-whole (size_bits x) (whole_bits x) (sym w.is-integerf.ensures.is ∙ w.if-is-integerf.true)
     ] in
-    c.zero-like.ensures ∙ ap (to_bits binary32) (sym (sinpif-rest x true (omega arith) (omega arith) e))
+    c.copysignfk.ensures ∙ sym (sinpif-rest x true (omega arith) (omega arith) e)
 
 pub returns : goal.returns
 returns c =
-    let w = c.args.word in
-    let x = of_bits binary32 w in
-    let s : size_bits x ≡ w % 2147483648 = size_is w c.ranges.word.fits c.if-x-abs-ge-INFINITE.false in
-    c.narrow-word-2.ensures ∙ ap (to_bits binary32) (ap narrowed (c.sinpi-by-quarter.ensures ∙ ap (λ z. by_quarter sine_by (reduce_quarter z)) c.widened-xd.ensures)
-    ∙ sym (sinpif-rest x false (omega arith) (omega arith) (not_whole (size_bits x) (whole_bits x) (omega arith) (sym c.is-integerf.ensures.is ∙ c.if-is-integerf.false))))
+    c.narrow-2.ensures ∙ ap narrowed (c.sinpi-by-quarter.ensures ∙ ap (λ z. by_quarter sine_by (reduce_quarter z)) c.f32-to-f64-with-nan-xd.ensures)
+    ∙ sym (sinpif-rest c.args.x false (omega arith) (omega arith) (not_whole (size_bits c.args.x) (whole_bits c.args.x) (omega arith) (sym c.is-integerf.ensures.is ∙ c.if-is-integerf.false)))

@@ -4,11 +4,10 @@ use Rattle.formulas.specs.Radians.{tanf}
 use Rattle.formulas.specs.Tangent.{Tangential, NearTangent}
 use Rattle.formulas.proofs.Floats.{at-float}
 use Rattle.formulas.proofs.TangentRadians.{radian_tangent}
-use Rattle.functions.proofs.Wording.{tanf-float}
 use Rattle.functions.proofs.tanf.f_tanf.Goals as goal
 
 pub returns : goal.returns
 returns c =
     let x = c.args.x in
-    let e = tanf-float c.args.x c.f32-from-bits-with-nan.result c.f32-to-bits-with-nan.result c.tanf-gen-impl.result (search rules) c.f32-to-bits-with-nan.ensures c.tanf-gen-impl.ensures c.f32-from-bits-with-nan.ensures in
+    let e = c.tanf-gen-impl.ensures in
     record { is = e; near = subst (λ r. NearTangent x r (radian_steps x)) (sym e) (at-float (λ z. Tangential (tanf z) (radian_steps z)) radian_tangent x (search rules)) }

@@ -3,11 +3,10 @@ use Rattle.formulas.specs.HalfTurns.{tanpif}
 use Rattle.formulas.specs.Tangent.{AtHalf, OffHalf, HalfOrNear}
 use Rattle.formulas.proofs.Floats.{at-float}
 use Rattle.formulas.proofs.TangentHalfTurns.{half_turn_tangent}
-use Rattle.functions.proofs.Wording.{tanpif-float}
 use Rattle.functions.proofs.tanpif.f_tanpif.Goals as goal
 
 pub returns : goal.returns
 returns c =
     let x = c.args.x in
-    let e = tanpif-float c.args.x c.f32-from-bits-with-nan.result c.f32-to-bits-with-nan.result c.tanpif-gen-impl.result (search rules) c.f32-to-bits-with-nan.ensures c.tanpif-gen-impl.ensures c.f32-from-bits-with-nan.ensures in
+    let e = c.tanpif-gen-impl.ensures in
     record { is = e; near = subst (λ r. HalfOrNear x r) (sym e) (at-float (λ z. AtHalf z (tanpif z) ⊎ OffHalf z (tanpif z)) half_turn_tangent x (search rules)) }

@@ -1,6 +1,8 @@
-use Rattle.std.proofs.Common.{rules}
-use Rattle.rounding.proofs.Narrows.{signed-joined}
+use Rattle.rounding.proofs.Narrows.{with-sign, without_sign}
 use Rattle.rounding.proofs.narrowing.narrow_bits.Goals as goal
 
-pub returns : goal.returns
-returns c = signed-joined c.args.i c.nearest-even-rest.result c.ranges.i.fits c.nearest-even-rest.ensures
+pub returns-then-i-ge9223372036854775808 : goal.returns-then-i-ge9223372036854775808
+returns-then-i-ge9223372036854775808 c = with-sign c.args.i c.nearest-even-rest.result c.if-i-ge9223372036854775808.true c.nearest-even-rest.ensures
+
+pub returns-else-i-ge9223372036854775808 : goal.returns-else-i-ge9223372036854775808
+returns-else-i-ge9223372036854775808 c = without_sign c.args.i c.nearest-even-rest.result c.if-i-ge9223372036854775808.false c.nearest-even-rest.ensures

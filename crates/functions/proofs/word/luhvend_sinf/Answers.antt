@@ -1,0 +1,7 @@
+use Rattle.std.proofs.Common.{ap, ◌∙◌}
+use lib.Ieee.{binary32, to_bits}
+use Rattle.formulas.specs.Radians.{sinf}
+use Rattle.functions.proofs.word.luhvend_sinf.Goals as goal
+
+pub returns : goal.returns
+returns c = c.f32-to-bits-with-nan.ensures ∙ ap (to_bits binary32) (c.f-sinf.ensures.is ∙ ap sinf c.f32-from-bits-with-nan.ensures)

@@ -1,0 +1,6 @@
+use Rattle.std.proofs.Common.{◌%◌, ◌^◌, ap, ◌∙◌}
+use lib.Bits.{and_mask}
+use Rattle.functions.proofs.word.size_bits.Goals as goal
+
+pub returns : goal.returns
+returns c = and_mask c.f32-to-bits-with-nan.result 31 ∙ ap (λ z. z % 2 ^ 31) c.f32-to-bits-with-nan.ensures
