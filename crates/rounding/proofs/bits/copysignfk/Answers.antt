@@ -5,4 +5,4 @@ use Rattle.rounding.proofs.bits.copysignfk.Goals as goal
 
 pub returns : goal.returns
 returns c =
-    copied_is binary32 c.args.x c.args.y c.f32-from-bits-with-nan.result c.f32-to-bits-with-nan-i.result c.f32-to-bits-with-nan-j.result (search rules) (search rules) c.f32-to-bits-with-nan-i.ensures c.f32-to-bits-with-nan-j.ensures c.f32-from-bits-with-nan.ensures
+    copied_is binary32 c.args.x c.args.y c.f32_from_bits_with_nan.result c.f32_to_bits_with_nan-i.result c.f32_to_bits_with_nan-j.result (search rules) (search rules) c.f32_to_bits_with_nan-i.ensures c.f32_to_bits_with_nan-j.ensures c.f32_from_bits_with_nan.ensures

@@ -4,4 +4,4 @@ use Rattle.rounding.proofs.narrowing.narrow.Goals as goal
 
 pub returns-then-field-le1150 : goal.returns-then-field-le1150
 returns-then-field-le1150 c =
-    narrow-joined c.args.x c.f32-from-bits-with-nan.result c.f64-to-bits-with-nan-i.result c.narrow-bits.result (search rules) c.f64-to-bits-with-nan-i.ensures (omega arith) (omega arith) c.narrow-bits.ensures c.f32-from-bits-with-nan.ensures
+    narrow-joined c.args.x c.f32_from_bits_with_nan.result c.f64_to_bits_with_nan-i.result c.narrow_bits.result (search rules) c.f64_to_bits_with_nan-i.ensures (omega arith) (omega arith) c.narrow_bits.ensures c.f32_from_bits_with_nan.ensures

@@ -4,4 +4,4 @@ use Rattle.rounding.proofs.Rounds.{round-joined}
 use Rattle.rounding.proofs.nearest.roundf.Goals as goal
 
 pub returns : goal.returns
-returns c = round-joined binary32 c.args.x c.f32-from-bits-with-nan.result c.f32-to-bits-with-nan.result c.roundf-bits.result (search rules) c.f32-to-bits-with-nan.ensures c.roundf-bits.ensures c.f32-from-bits-with-nan.ensures
+returns c = round-joined binary32 c.args.x c.f32_from_bits_with_nan.result c.f32_to_bits_with_nan.result c.roundf_bits.result (search rules) c.f32_to_bits_with_nan.ensures c.roundf_bits.ensures c.f32_from_bits_with_nan.ensures
