@@ -23,7 +23,7 @@ returns-in-err-tally c =
     let room : ℕ = length c.args.buffer.now in
     record {
       outcome = refused (outcome_of room bytes) c.in-err-tally.field-0.0 p.0 c.args.buffer.now c.from-residual.result (decided room bytes c.if-buffer-lt-ROOM.false c.if-bytes-gt-LONGEST.false ∙ sym c.in-err-tally.ensures) p.1 p.2;
-      means = outcome-means room bytes (λ i. (c.type-inv.bytes i).fits);
+      means = outcome-means room bytes (λ i. (c.type_inv.bytes i).fits);
     }
 
 written : (o : Result Tally RecordFault) (t : Tally) (n : ℕ) (page after text : List ℕ) → o ≡ Ok t → text ≡ report_text t → n ≡ length text → after ≡ pasted page 0 text → Reported o (Ok n) page after
@@ -38,5 +38,5 @@ returns c =
       outcome = written (outcome_of room bytes) t c.write-lines.result c.args.buffer.now c.write-lines.new.buffer _ (decided room bytes c.if-buffer-lt-ROOM.false c.if-bytes-gt-LONGEST.false ∙ sym c.in-ok-tally.ensures)
           (ap (λ z. lines t.edition t.rows t.speed z (to_z w64 (of_z w64 t.across))) (to_z-of_z w64 t.along (search rules)) ∙ ap (lines t.edition t.rows t.speed t.along) (to_z-of_z w64 t.across (search rules)))
           c.write-lines.ensures.end c.write-lines.ensures.page;
-      means = outcome-means room bytes (λ i. (c.type-inv.bytes i).fits);
+      means = outcome-means room bytes (λ i. (c.type_inv.bytes i).fits);
     }

@@ -3,5 +3,5 @@ use Rattle.reducers.proofs.ArgumentReducer.reduce_small.Goals as goal
 
 pub returns : goal.returns
 returns c =
-    small-joined c.args.self.x c.thirtytwo-over-pi.result c.thirtytwo-over-pi-2.result c.thirtytwo-over-pi-3.result c.round-kd.result c.f-fmla-y.result c.f-fmla-y-2.result c.saturating-f64-to-i64.result
-    c.thirtytwo-over-pi.ensures c.round-kd.ensures c.thirtytwo-over-pi-2.ensures c.f-fmla-y.ensures c.thirtytwo-over-pi-3.ensures c.f-fmla-y-2.ensures c.saturating-f64-to-i64.ensures c.saturating-f64-to-i64.type-inv
+    small-joined c.args.self.x c.thirtytwo_over_pi.result c.thirtytwo_over_pi-2.result c.thirtytwo_over_pi-3.result c.round-kd.result c.f_fmla-y.result c.f_fmla-y-2.result c.saturating_f64_to_i64.result
+    c.thirtytwo_over_pi.ensures c.round-kd.ensures c.thirtytwo_over_pi-2.ensures c.f_fmla-y.ensures c.thirtytwo_over_pi-3.ensures c.f_fmla-y-2.ensures c.saturating_f64_to_i64.ensures c.saturating_f64_to_i64.type_inv
