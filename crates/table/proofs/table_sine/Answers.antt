@@ -5,9 +5,9 @@ use Rattle.table.specs.Sines.{sin_table, table_sine}
 use Rattle.table.proofs.Table.{no_nan, table-sine, good}
 use Rattle.table.proofs.table_sine.Goals as goal
 
-pub float-from-bits-result : goal.float-from-bits-result
+pub float_from_bits-result : goal.float_from_bits-result
 unfolding sin_table
-float-from-bits-result c = no_nan (c.args.k % 64) (omega arith)
+float_from_bits-result c = no_nan (c.args.k % 64) (omega arith)
 
 pub returns : goal.returns
 unfolding table_sine

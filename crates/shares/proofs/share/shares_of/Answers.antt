@@ -9,8 +9,8 @@ returns c =
     let s = to_z-of_z {w = mir.Syntax.w32} {z = c.share.result} (record { sfits = c.share.type_inv }) ∙ (c.share.ensures ∙ ap share_of c.sine-and-cosine-sine.ensures.sine-is) in
     let t = to_z-of_z {w = mir.Syntax.w32} {z = c.share-2.result} (record { sfits = c.share-2.type_inv }) ∙ (c.share-2.ensures ∙ ap share_of c.sine-and-cosine-sine.ensures.cosine-is) in
     record {
-      sine-is = s;
-      cosine-is = t;
-      sine-near = rw s (share-sine c.args.y (c.args.k % 64) (omega arith));
-      cosine-near = rw t (share-cosine c.args.y (c.args.k % 64) (omega arith));
+      sine_is = s;
+      cosine_is = t;
+      sine_near = rw s (share-sine c.args.y (c.args.k % 64) (omega arith));
+      cosine_near = rw t (share-cosine c.args.y (c.args.k % 64) (omega arith));
     }

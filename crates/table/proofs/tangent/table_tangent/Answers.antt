@@ -5,9 +5,9 @@ use Rattle.table.specs.Tangents.{tan_table, table_tangent}
 use Rattle.table.proofs.Tangents.{tan_no_nan, table_tangent_lem}
 use Rattle.table.proofs.tangent.table_tangent.Goals as goal
 
-pub float-from-bits-result : goal.float-from-bits-result
+pub float_from_bits-result : goal.float_from_bits-result
 unfolding tan_table
-float-from-bits-result c = tan_no_nan (c.args.k % 64) (omega arith)
+float_from_bits-result c = tan_no_nan (c.args.k % 64) (omega arith)
 
 pub returns : goal.returns
 unfolding table_tangent
