@@ -7,8 +7,8 @@ returns c = record {
   sine = sine-series;
   cosine = cosine-series;
   tangent = tangent_series;
-  half-sine = half-sine-series;
-  half-cosine = half-cosine-series;
-  quarter-sine = quarter-sine-series;
-  quarter-cosine = quarter-cosine-series;
+  half_sine = half-sine-series;
+  half_cosine = half-cosine-series;
+  quarter_sine = quarter-sine-series;
+  quarter_cosine = quarter-cosine-series;
 }

@@ -4,4 +4,4 @@ use Rattle.formulas.proofs.Special.{not_finite}
 use Rattle.formulas.proofs.sine_distances.Goals as goal
 
 pub returns : goal.returns
-returns c = record { radian-sine = radian-sine; radian-cosine = radian-cosine; half-turn-sine = half-turn-sine; half-turn-cosine = half-turn-cosine; not_finite = not_finite }
+returns c = record { radian_sine = radian-sine; radian_cosine = radian-cosine; half_turn_sine = half-turn-sine; half_turn_cosine = half-turn-cosine; not_finite = not_finite }

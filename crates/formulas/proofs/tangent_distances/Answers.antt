@@ -4,4 +4,4 @@ use Rattle.formulas.proofs.TangentSpecial.{tangents_not_finite}
 use Rattle.formulas.proofs.tangent_distances.Goals as goal
 
 pub returns : goal.returns
-returns c = record { radian = radian_tangent; half-turn = half_turn_tangent; not_finite = tangents_not_finite }
+returns c = record { radian = radian_tangent; half_turn = half_turn_tangent; not_finite = tangents_not_finite }

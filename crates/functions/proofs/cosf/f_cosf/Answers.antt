@@ -9,5 +9,5 @@ use Rattle.functions.proofs.cosf.f_cosf.Goals as goal
 
 pub returns : goal.returns
 returns c =
-    let e = c.cosf-gen-impl.ensures in
+    let e = c.cosf_gen_impl.ensures in
     record { is = e; near = subst (λ r. Near c.args.x r (exact_cosine (radian_steps c.args.x))) (sym e) (near-float cosf radian_steps exact_cosine radian-cosine c.args.x (search rules)) }

@@ -3,26 +3,26 @@ use lib.Ieee.{nan_bits}
 use Rattle.formulas.specs.HalfTurns.{cospi_near}
 use Rattle.functions.proofs.cospif.cospi_near.Goals as goal
 
-pub float-from-bits-f-polyeval5 : goal.float-from-bits-f-polyeval5
+pub float_from_bits-f_polyeval5 : goal.float_from_bits-f_polyeval5
 unfolding nan_bits
-float-from-bits-f-polyeval5 c = tt
+float_from_bits-f_polyeval5 c = tt
 
-pub float-from-bits-f-polyeval5-2 : goal.float-from-bits-f-polyeval5-2
+pub float_from_bits-f_polyeval5-2 : goal.float_from_bits-f_polyeval5-2
 unfolding nan_bits
-float-from-bits-f-polyeval5-2 c = tt
+float_from_bits-f_polyeval5-2 c = tt
 
-pub float-from-bits-f-polyeval5-3 : goal.float-from-bits-f-polyeval5-3
+pub float_from_bits-f_polyeval5-3 : goal.float_from_bits-f_polyeval5-3
 unfolding nan_bits
-float-from-bits-f-polyeval5-3 c = tt
+float_from_bits-f_polyeval5-3 c = tt
 
-pub float-from-bits-f-polyeval5-4 : goal.float-from-bits-f-polyeval5-4
+pub float_from_bits-f_polyeval5-4 : goal.float_from_bits-f_polyeval5-4
 unfolding nan_bits
-float-from-bits-f-polyeval5-4 c = tt
+float_from_bits-f_polyeval5-4 c = tt
 
-pub float-from-bits-f-polyeval5-5 : goal.float-from-bits-f-polyeval5-5
+pub float_from_bits-f_polyeval5-5 : goal.float_from_bits-f_polyeval5-5
 unfolding nan_bits
-float-from-bits-f-polyeval5-5 c = tt
+float_from_bits-f_polyeval5-5 c = tt
 
 pub returns : goal.returns
 unfolding cospi_near
-returns c = rw c.f-polyeval5.ensures.is refl
+returns c = rw c.f_polyeval5.ensures.is refl

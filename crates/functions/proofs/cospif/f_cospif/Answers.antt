@@ -8,5 +8,5 @@ use Rattle.functions.proofs.cospif.f_cospif.Goals as goal
 
 pub returns : goal.returns
 returns c =
-    let e = c.cospif-gen-impl.ensures in
+    let e = c.cospif_gen_impl.ensures in
     record { is = e; near = subst (λ r. Near c.args.x r (exact_cosine (half_turn_steps c.args.x))) (sym e) (near-float cospif half_turn_steps exact_cosine half-turn-cosine c.args.x (search rules)) }

@@ -3,30 +3,30 @@ use lib.Ieee.{nan_bits}
 use Rattle.formulas.specs.HalfTurns.{sinpi_y}
 use Rattle.functions.proofs.sincosf_eval.sinpif_eval.Goals as goal
 
-pub float-from-bits-f-polyeval6 : goal.float-from-bits-f-polyeval6
+pub float_from_bits-f_polyeval6 : goal.float_from_bits-f_polyeval6
 unfolding nan_bits
-float-from-bits-f-polyeval6 c = tt
+float_from_bits-f_polyeval6 c = tt
 
-pub float-from-bits-f-polyeval6-2 : goal.float-from-bits-f-polyeval6-2
+pub float_from_bits-f_polyeval6-2 : goal.float_from_bits-f_polyeval6-2
 unfolding nan_bits
-float-from-bits-f-polyeval6-2 c = tt
+float_from_bits-f_polyeval6-2 c = tt
 
-pub float-from-bits-f-polyeval6-3 : goal.float-from-bits-f-polyeval6-3
+pub float_from_bits-f_polyeval6-3 : goal.float_from_bits-f_polyeval6-3
 unfolding nan_bits
-float-from-bits-f-polyeval6-3 c = tt
+float_from_bits-f_polyeval6-3 c = tt
 
-pub float-from-bits-f-polyeval6-4 : goal.float-from-bits-f-polyeval6-4
+pub float_from_bits-f_polyeval6-4 : goal.float_from_bits-f_polyeval6-4
 unfolding nan_bits
-float-from-bits-f-polyeval6-4 c = tt
+float_from_bits-f_polyeval6-4 c = tt
 
-pub float-from-bits-f-polyeval6-5 : goal.float-from-bits-f-polyeval6-5
+pub float_from_bits-f_polyeval6-5 : goal.float_from_bits-f_polyeval6-5
 unfolding nan_bits
-float-from-bits-f-polyeval6-5 c = tt
+float_from_bits-f_polyeval6-5 c = tt
 
-pub float-from-bits-f-polyeval6-6 : goal.float-from-bits-f-polyeval6-6
+pub float_from_bits-f_polyeval6-6 : goal.float_from_bits-f_polyeval6-6
 unfolding nan_bits
-float-from-bits-f-polyeval6-6 c = tt
+float_from_bits-f_polyeval6-6 c = tt
 
 pub returns : goal.returns
 unfolding sinpi_y
-returns c = rw c.f-polyeval6.ensures.is refl
+returns c = rw c.f_polyeval6.ensures.is refl

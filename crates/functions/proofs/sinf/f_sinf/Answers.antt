@@ -9,5 +9,5 @@ use Rattle.functions.proofs.sinf.f_sinf.Goals as goal
 
 pub returns : goal.returns
 returns c =
-    let e = c.sinf-gen-impl.ensures in
+    let e = c.sinf_gen_impl.ensures in
     record { is = e; near = subst (λ r. Near c.args.x r (exact_sine (radian_steps c.args.x))) (sym e) (near-float sinf radian_steps exact_sine radian-sine c.args.x (search rules)) }

@@ -8,5 +8,5 @@ use Rattle.functions.proofs.sinpif.f_sinpif.Goals as goal
 
 pub returns : goal.returns
 returns c =
-    let e = c.sinpif-gen-impl.ensures in
+    let e = c.sinpif_gen_impl.ensures in
     record { is = e; near = subst (λ r. Near c.args.x r (exact_sine (half_turn_steps c.args.x))) (sym e) (near-float sinpif half_turn_steps exact_sine half-turn-sine c.args.x (search rules)) }

@@ -5,10 +5,10 @@ use Rattle.formulas.specs.HalfTurns.{sine_by}
 use Rattle.formulas.proofs.Ways.{sine-last, quarter-at}
 use Rattle.functions.proofs.sinpif.sinpi_by_quarter.Goals as goal
 
-pub returns-in-default : goal.returns-in-default
-returns-in-default c =
-    let k = c.step-of.result in
-    let r = c.reduce-0p25-y.result in
+pub returns-in_default : goal.returns-in_default
+returns-in_default c =
+    let k = c.step_of.result in
+    let r = c.reduce_0p25-y.result in
     let e : k % 4 ≡ 3 = omega arith in
     let h : k ≡ mod_turn r.1 = search rules in
-    ap neg c.cospif-eval-in-default.ensures ∙ sine-last (k % 4) r.0 e ∙ quarter-at sine_by c.args.x r k c.reduce-0p25-y.ensures.is h
+    ap neg c.cospif_eval-in_default.ensures ∙ sine-last (k % 4) r.0 e ∙ quarter-at sine_by c.args.x r k c.reduce_0p25-y.ensures.is h

@@ -9,5 +9,5 @@ use Rattle.functions.proofs.tanf.f_tanf.Goals as goal
 pub returns : goal.returns
 returns c =
     let x = c.args.x in
-    let e = c.tanf-gen-impl.ensures in
+    let e = c.tanf_gen_impl.ensures in
     record { is = e; near = subst (λ r. NearTangent x r (radian_steps x)) (sym e) (at-float (λ z. Tangential (tanf z) (radian_steps z)) radian_tangent x (search rules)) }

@@ -8,7 +8,7 @@ use Rattle.functions.proofs.tanf.tan_by_table.Goals as goal
 pub returns : goal.returns
 returns c =
     let r = c.reduce-y.result in
-    let k = c.step-of.result in
+    let k = c.step_of.result in
     let h : k ≡ mod_turn r.1 = search rules in
-    let g : c.tangent.result ≡ tangent64 r.0 (k % 64) = rw (c.tangent.ensures, c.tanf-eval.ensures.tan-y, c.tanf-eval.ensures.tan-k) refl in
-    by-step tangent64 (reduce c.args.x c.args.x-abs) r k c.tangent.result c.reduce-y.ensures.is h g
+    let g : c.tangent.result ≡ tangent64 r.0 (k % 64) = rw (c.tangent.ensures, c.tanf_eval.ensures.tan_y, c.tanf_eval.ensures.tan_k) refl in
+    by-step tangent64 (reduce c.args.x c.args.x_abs) r k c.tangent.result c.reduce-y.ensures.is h g

@@ -8,5 +8,5 @@ use Rattle.functions.proofs.tanpif.f_tanpif.Goals as goal
 pub returns : goal.returns
 returns c =
     let x = c.args.x in
-    let e = c.tanpif-gen-impl.ensures in
+    let e = c.tanpif_gen_impl.ensures in
     record { is = e; near = subst (λ r. HalfOrNear x r) (sym e) (at-float (λ z. AtHalf z (tanpif z) ⊎ OffHalf z (tanpif z)) half_turn_tangent x (search rules)) }

@@ -6,22 +6,22 @@ use Rattle.formulas.specs.HalfTurns.{pi, pi3_over3}
 use Rattle.formulas.proofs.Ways.{tanpi_tiny, tanpi_table}
 use Rattle.functions.proofs.tanpif.tanpi_by_table.Goals as goal
 
-pub float-from-bits-f-fmla : goal.float-from-bits-f-fmla
+pub float_from_bits-f_fmla : goal.float_from_bits-f_fmla
 unfolding nan_bits
-float-from-bits-f-fmla c = tt
+float_from_bits-f_fmla c = tt
 
-pub float-from-bits-f-fmla-then-size-bits-lt953267991 : goal.float-from-bits-f-fmla-then-size-bits-lt953267991
+pub float_from_bits-f_fmla-then-size_bits-lt953267991 : goal.float_from_bits-f_fmla-then-size_bits-lt953267991
 unfolding nan_bits
-float-from-bits-f-fmla-then-size-bits-lt953267991 c = tt
+float_from_bits-f_fmla-then-size_bits-lt953267991 c = tt
 
-pub returns-then-size-bits-lt953267991 : goal.returns-then-size-bits-lt953267991
-returns-then-size-bits-lt953267991 c =
-    c.narrow.ensures ∙ ap (λ z. narrowed (mul binary64 z c.f32-to-f64-with-nan-dx.result)) c.f-fmla-r.ensures
-    ∙ ap (λ z. narrowed (mul binary64 (fmla (mul binary64 z z) pi3_over3 pi) z)) c.f32-to-f64-with-nan-dx.ensures
+pub returns-then-size_bits-lt953267991 : goal.returns-then-size_bits-lt953267991
+returns-then-size_bits-lt953267991 c =
+    c.narrow.ensures ∙ ap (λ z. narrowed (mul binary64 z c.f32_to_f64_with_nan-dx.result)) c.f_fmla-r.ensures
+    ∙ ap (λ z. narrowed (mul binary64 (fmla (mul binary64 z z) pi3_over3 pi) z)) c.f32_to_f64_with_nan-dx.ensures
     ∙ sym (tanpi_tiny c.args.x c.args.y c.args.k (omega arith))
 
 pub returns : goal.returns
 returns c =
     c.narrow-2.ensures
-    ∙ ap narrowed (c.tangent.ensures ∙ ap (λ z. tangent_of z c.tanf-eval.result.tan_k) c.tanf-eval.ensures.tan-y ∙ ap (tangent_of (tan_of_y c.args.y)) (c.tanf-eval.ensures.tan-k ∙ ap table_tangent (mod-eq_of_lt c.requires)))
+    ∙ ap narrowed (c.tangent.ensures ∙ ap (λ z. tangent_of z c.tanf_eval.result.tan_k) c.tanf_eval.ensures.tan_y ∙ ap (tangent_of (tan_of_y c.args.y)) (c.tanf_eval.ensures.tan_k ∙ ap table_tangent (mod-eq_of_lt c.requires)))
     ∙ sym (tanpi_table c.args.x c.args.y c.args.k (omega arith))

@@ -4,4 +4,4 @@ use Rattle.formulas.specs.HalfTurns.{sinpif}
 use Rattle.functions.proofs.word.luhvend_sinpif.Goals as goal
 
 pub returns : goal.returns
-returns c = c.f32-to-bits-with-nan.ensures ∙ ap (to_bits binary32) (c.f-sinpif.ensures.is ∙ ap sinpif c.f32-from-bits-with-nan.ensures)
+returns c = c.f32_to_bits_with_nan.ensures ∙ ap (to_bits binary32) (c.f_sinpif.ensures.is ∙ ap sinpif c.f32_from_bits_with_nan.ensures)

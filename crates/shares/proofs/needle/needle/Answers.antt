@@ -14,17 +14,17 @@ paired p a b e f i = (e i, f i)
 near : (g : given.Over) (r : g.row.R.Denot) (w : ℕ) (a : _) → w < 2 ^ 32 → a ≡ needle_of (g.R.Reader.answer r w) → Points (g.R.Reader.steps r w) a
 near g r w a h e = subst (Points (g.R.Reader.steps r w)) (sym e) (points (g.R.Reader.steps r w) (g.R.Reader.answer r w) (g.met.R.Reader.meaning r w h))
 
-pub returns-in-err-k : goal.returns-in-err-k
+pub returns-in_err-k : goal.returns-in_err-k
 unfolding needle_of
-returns-in-err-k g c =
-    let p = err_from_is_err_and c.from-residual.result c.from-residual.ensures.1 in
-    let e : c.from-residual.result ≡ needle_of (g.R.Reader.answer c.args.reader.now c.args.word) = p.1 ∙ ap Err p.2 ∙ ap needle_of c.in-err-k.ensures in
-    record { is = e; near = near g c.args.reader.now c.args.word c.from-residual.result (omega arith) e }
+returns-in_err-k g c =
+    let p = err_from_is_err_and c.from_residual.result c.from_residual.ensures.1 in
+    let e : c.from_residual.result ≡ needle_of (g.R.Reader.answer c.args.reader.now c.args.word) = p.1 ∙ ap Err p.2 ∙ ap needle_of c.in_err-k.ensures in
+    record { is = e; near = near g c.args.reader.now c.args.word c.from_residual.result (omega arith) e }
 
 pub returns : goal.returns
 unfolding needle_of
 returns g c =
-    let s = c.sine-and-cosine.ensures.sine-is in
-    let t = c.sine-and-cosine.ensures.cosine-is in
-    let e : Ok c.sine-and-cosine.result ≡ needle_of (g.R.Reader.answer c.args.reader.now c.args.word) = ap Ok (paired c.sine-and-cosine.result _ _ s t) ∙ ap needle_of c.in-ok-k.ensures in
-    record { is = e; near = near g c.args.reader.now c.args.word (Ok c.sine-and-cosine.result) (omega arith) e }
+    let s = c.sine_and_cosine.ensures.sine_is in
+    let t = c.sine_and_cosine.ensures.cosine_is in
+    let e : Ok c.sine_and_cosine.result ≡ needle_of (g.R.Reader.answer c.args.reader.now c.args.word) = ap Ok (paired c.sine_and_cosine.result _ _ s t) ∙ ap needle_of c.in_ok-k.ensures in
+    record { is = e; near = near g c.args.reader.now c.args.word (Ok c.sine_and_cosine.result) (omega arith) e }

@@ -6,8 +6,8 @@ use Rattle.shares.proofs.share.shares_of.Goals as goal
 pub returns : goal.returns
 unfolding sine_share cosine_share
 returns c =
-    let s = to_z-of_z {w = mir.Syntax.w32} {z = c.share.result} (record { sfits = c.share.type_inv }) ∙ (c.share.ensures ∙ ap share_of c.sine-and-cosine-sine.ensures.sine-is) in
-    let t = to_z-of_z {w = mir.Syntax.w32} {z = c.share-2.result} (record { sfits = c.share-2.type_inv }) ∙ (c.share-2.ensures ∙ ap share_of c.sine-and-cosine-sine.ensures.cosine-is) in
+    let s = to_z-of_z {w = mir.Syntax.w32} {z = c.share.result} (record { sfits = c.share.type_inv }) ∙ (c.share.ensures ∙ ap share_of c.sine_and_cosine-sine.ensures.sine_is) in
+    let t = to_z-of_z {w = mir.Syntax.w32} {z = c.share-2.result} (record { sfits = c.share-2.type_inv }) ∙ (c.share-2.ensures ∙ ap share_of c.sine_and_cosine-sine.ensures.cosine_is) in
     record {
       sine_is = s;
       cosine_is = t;
