@@ -9,11 +9,11 @@ pub loop-rest-init : goal.loop-rest-init
 loop-rest-init c =
     (length c.args.bytes.now, omega arith, ap (λ l. l ++ calls_in (fields_of c.args.bytes.now)) c.new-calls.ensures.items)
 
-pub returns-in-default : goal.returns-in-default
-returns-in-default c =
+pub returns-in_default : goal.returns-in_default
+returns-in_default c =
     let there : 0 < length c.loop-rest.rest.now = search rules in
     let i = c.loop-rest.invariant in
-    calls-stop _ _ c.loop-rest.state _ c.loop-rest.rest.now c.in-default.field-0 there c.in-default.ensures i.0 i.1 i.2
+    calls-stop _ _ c.loop-rest.state _ c.loop-rest.rest.now c.in_default.field-0 there c.in_default.ensures i.0 i.1 i.2
 
 pub loop-rest-smaller : goal.loop-rest-smaller
 loop-rest-smaller c = field-shorter c.loop-rest.state c.loop-rest.rest.now _ c.in-Ok.ensures

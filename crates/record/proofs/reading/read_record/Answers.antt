@@ -31,7 +31,7 @@ returns-in-err-first c =
     p.1 ∙ ap Err (p.2 ∙ at_zero f h.1) ∙ sym (record-refused bytes f.cause there h.0)
 
 pub unreachable-requires : goal.unreachable-requires
-unreachable-requires c = let e = first-edition c.args.«record».now _ c.in-ok-first.ensures in c.in-default.not-Edition e.0 e.1
+unreachable-requires c = let e = first-edition c.args.«record».now _ c.in-ok-first.ensures in c.in_default.not-Edition e.0 e.1
 
 room : (bytes rest after : List ℕ) → length rest < length bytes → length after ≤ length rest → length after ≤ length bytes
 room bytes rest after h k = omega arith

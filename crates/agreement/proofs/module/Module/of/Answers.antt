@@ -3,11 +3,11 @@ use Rattle.record.proofs.Fields.{first-edition}
 use Rattle.agreement.proofs.Modules.{none_said, both-said}
 use Rattle.agreement.proofs.module.Module.of.Goals as goal
 
-pub returns-in-default : goal.returns-in-default
-returns-in-default c = let n = none_said c.args.bytes.now c.in-default.field-0 c.in-default.ensures in record { edition = n.0; mount = n.1 }
+pub returns-in_default : goal.returns-in_default
+returns-in_default c = let n = none_said c.args.bytes.now c.in_default.field-0 c.in_default.ensures in record { edition = n.0; mount = n.1 }
 
 pub unreachable-requires : goal.unreachable-requires
-unreachable-requires c = let e = first-edition c.args.bytes.now _ c.in-Ok.ensures in c.in-default-item.not-Edition e.0 e.1
+unreachable-requires c = let e = first-edition c.args.bytes.now _ c.in-Ok.ensures in c.in_default-item.not-Edition e.0 e.1
 
 pub returns : goal.returns
 returns c =

@@ -17,21 +17,22 @@ none = record { sample = 0; speed = 0; word = 0; sine = pos 0; cosine = pos 0 }
 pub remove-requires : goal.remove-requires
 remove-requires g c = let s = c.args.self.now in (omega (arith, c.in-Some.ensures.within, length-take s.table.count s.table.rows), s.within)
 
-pub returns-in-default : goal.returns-in-default
-returns-in-default g c =
+pub returns-in_default : goal.returns-in_default
+returns-in_default g c =
     let s = c.args.self.now in
-    record { answer = withdraw_absent (samples (standing s.table)) c.args.sample c.in-default.ensures; rows = Permᴰ.refl (standing s.table); reader = refl; same = refl }
+    record { answer = withdraw_absent (samples (standing s.table)) c.args.sample c.in_default.ensures; rows = Permᴰ.refl (standing s.table); reader = refl; same = refl }
 
-pub invariant-of-self : goal.invariant-of-self
-invariant-of-self g c =
+pub invariant_of-self : goal.invariant_of-self
+invariant_of-self g c =
     let s = c.args.self.now in
-    let k = c.remove.ensures.kept in (
-      k.within,
-      (
-        ap (λ l. distinct (samples l)) (c.remove.ensures.rows none) ∙ withdrawn-distinct (standing s.table) c.in-Some.i none c.in-Some.ensures.within s.differ,
-        (k.speed, (k.along, (k.across, tt))),
-      ),
-    )
+    let k = c.remove.ensures.kept in
+    record {
+      within = k.within;
+      differ = ap (λ l. distinct (samples l)) (c.remove.ensures.rows none) ∙ withdrawn-distinct (standing s.table) c.in-Some.i none c.in-Some.ensures.within s.differ;
+      speed = k.speed;
+      along = k.along;
+      across = k.across;
+    }
 
 pub returns : goal.returns
 returns g c =

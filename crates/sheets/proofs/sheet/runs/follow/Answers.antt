@@ -54,13 +54,13 @@ unchanged : {X E : Type 0} {P : Type 0} (r : Result X E) → P → IfErr r (λ _
 unchanged (Ok x) p = tt
 unchanged (Err e) p = p
 
-pub returns-in-err-row-at : goal.returns-in-err-row-at
-returns-in-err-row-at g c =
+pub returns-in_err-row_at-in-RowAt : goal.returns-in_err-row_at-in-RowAt
+returns-in_err-row_at-in-RowAt g c =
     let s = c.args.sheet.now in
     let steps : ℕ → Steps = λ w. g.R.Reader.steps s.reader w in
-    let r = c.from-residual-in-err-row-at.result in
-    let p = err_from_is_err_and r c.from-residual-in-err-row-at.ensures.1 in
-    let h = c.in-err-row-at.ensures in
+    let r = c.from_residual-in_err-row_at-in-RowAt.result in
+    let p = err_from_is_err_and r c.from_residual-in_err-row_at-in-RowAt.ensures.1 in
+    let h = c.in_err-row_at-in-RowAt.ensures in
     record {
       answer = subst (λ q. r ≡ asked steps (samples (rows s)) q) (sym c.in-RowAt.is) (p.1 ∙ unplaced (rows s) c.in-RowAt.place p.0 (p.2 ∙ h.0) h.1);
       grown = λ book old. subst (λ q. Grown (g.R.Reader.answer s.reader) (written steps book q) (rows s)) (sym c.in-RowAt.is) old;
@@ -68,23 +68,23 @@ returns-in-err-row-at g c =
       same = unchanged r refl;
     }
 
-pub returns-in-ok-row-of : goal.returns-in-ok-row-of
-returns-in-ok-row-of g c =
+pub returns-in_ok-row_of-in-RowOf : goal.returns-in_ok-row_of-in-RowOf
+returns-in_ok-row_of-in-RowOf g c =
     let s = c.args.sheet.now in
     let steps : ℕ → Steps = λ w. g.R.Reader.steps s.reader w in
     record {
-      answer = subst (λ q. Ok tt ≡ asked steps (samples (rows s)) q) (sym c.in-RowOf.is) (sym (cond-true (among c.in-RowOf.sample (samples (rows s))) _ _ (has_there (rows s) _ c.in-RowOf.sample c.in-ok-row-of.ensures.0 c.in-ok-row-of.ensures.1)));
+      answer = subst (λ q. Ok tt ≡ asked steps (samples (rows s)) q) (sym c.in-RowOf.is) (sym (cond-true (among c.in-RowOf.sample (samples (rows s))) _ _ (has_there (rows s) _ c.in-RowOf.sample c.in_ok-row_of-in-RowOf.ensures.0 c.in_ok-row_of-in-RowOf.ensures.1)));
       grown = λ book old. subst (λ q. Grown (g.R.Reader.answer s.reader) (written steps book q) (rows s)) (sym c.in-RowOf.is) old;
       reader = refl;
       same = tt;
     }
 
-pub returns-in-ok-row-at : goal.returns-in-ok-row-at
-returns-in-ok-row-at g c =
+pub returns-in_ok-row_at-in-RowAt : goal.returns-in_ok-row_at-in-RowAt
+returns-in_ok-row_at-in-RowAt g c =
     let s = c.args.sheet.now in
     let steps : ℕ → Steps = λ w. g.R.Reader.steps s.reader w in
     record {
-      answer = subst (λ q. Ok tt ≡ asked steps (samples (rows s)) q) (sym c.in-RowAt.is) (placed (rows s) c.in-RowAt.place c.in-ok-row-at.ensures.0);
+      answer = subst (λ q. Ok tt ≡ asked steps (samples (rows s)) q) (sym c.in-RowAt.is) (placed (rows s) c.in-RowAt.place c.in_ok-row_at-in-RowAt.ensures.0);
       grown = λ book old. subst (λ q. Grown (g.R.Reader.answer s.reader) (written steps book q) (rows s)) (sym c.in-RowAt.is) old;
       reader = refl;
       same = tt;
