@@ -11,13 +11,13 @@ use Rattle.law.specs.declared.asking.Reply.TheVariants.{Shown}
 use Rattle.law.specs.Replies.{Answer}
 use Rattle.law.proofs.asking.ask.Goals as goal
 
-pub returns-in-err-row-at : goal.returns-in-err-row-at
-returns-in-err-row-at g c =
+pub returns-in_err-row_at-in-RowAt : goal.returns-in_err-row_at-in-RowAt
+returns-in_err-row_at-in-RowAt g c =
     let s = c.args.sheet.now in
     let steps : ℕ → Steps = λ w. g.R.Reader.steps s.reader w in
-    let r = c.from-residual-in-err-row-at.result in
-    let p = err_from_is_err_and r c.from-residual-in-err-row-at.ensures.1 in
-    let h = c.in-err-row-at.ensures in
+    let r = c.from_residual-in_err-row_at-in-RowAt.result in
+    let p = err_from_is_err_and r c.from_residual-in_err-row_at-in-RowAt.ensures.1 in
+    let h = c.in_err-row_at-in-RowAt.ensures in
     record {
       answer = subst (λ q. Answer steps (rows s) c.args.call q (rows s)) (sym p.1)
           (subst (λ q. asked steps (samples (rows s)) q ≡ Err p.0) (sym c.in-RowAt.is) (sym (unplaced (rows s) c.in-RowAt.place p.0 (p.2 ∙ h.0) h.1)), refl);
@@ -25,12 +25,12 @@ returns-in-err-row-at g c =
       reader = refl;
     }
 
-pub returns-in-ok-row-of : goal.returns-in-ok-row-of
-returns-in-ok-row-of g c =
+pub returns-in_ok-row_of-in-RowOf : goal.returns-in_ok-row_of-in-RowOf
+returns-in_ok-row_of-in-RowOf g c =
     let s = c.args.sheet.now in
     let steps : ℕ → Steps = λ w. g.R.Reader.steps s.reader w in
-    let row = c.in-ok-row-of.field-0 in
-    let h = c.in-ok-row-of.ensures in
+    let row = c.in_ok-row_of-in-RowOf.field-0 in
+    let h = c.in_ok-row_of-in-RowOf.ensures in
     record {
       answer = subst (λ q. Answer steps (rows s) q (Ok (Shown row)) (rows s)) (sym c.in-RowOf.is)
           (cond-true (among c.in-RowOf.sample (samples (rows s))) _ _ (has_there (rows s) row c.in-RowOf.sample h.0 h.1), (row, refl, h.1, h.0, refl));
@@ -38,12 +38,12 @@ returns-in-ok-row-of g c =
       reader = refl;
     }
 
-pub returns-in-ok-row-at : goal.returns-in-ok-row-at
-returns-in-ok-row-at g c =
+pub returns-in_ok-row_at-in-RowAt : goal.returns-in_ok-row_at-in-RowAt
+returns-in_ok-row_at-in-RowAt g c =
     let s = c.args.sheet.now in
     let steps : ℕ → Steps = λ w. g.R.Reader.steps s.reader w in
-    let row = c.in-ok-row-at.field-0 in
-    let h = c.in-ok-row-at.ensures in
+    let row = c.in_ok-row_at-in-RowAt.field-0 in
+    let h = c.in_ok-row_at-in-RowAt.ensures in
     record {
       answer = subst (λ q. Answer steps (rows s) q (Ok (Shown row)) (rows s)) (sym c.in-RowAt.is)
           (sym (placed (rows s) c.in-RowAt.place h.0), (λ d. ap Shown (h.1 d), refl));
