@@ -15,43 +15,43 @@ unfolding record_tally
 nothing [] h = refl
 nothing (b ∷ bs) h = absurd (omega arith)
 
-pub returns-then-is-empty : goal.returns-then-is-empty
-returns-then-is-empty c = let z : length c.args.«record».now ≡ 0 = search rules in nothing c.args.«record».now z
+pub returns-then-is_empty : goal.returns-then-is_empty
+returns-then-is_empty c = let z : length c.args.«record».now ≡ 0 = search rules in nothing c.args.«record».now z
 
 at_zero : (f : RecordFault) → f.offset ≡ 0 → f ≡ record { cause = f.cause; offset = 0 }
 at_zero f e i = record { cause = f.cause; offset = e i }
 
-pub returns-in-err-first : goal.returns-in-err-first
-returns-in-err-first c =
-    let p = err_from_is_err_and c.from-residual.result c.from-residual.ensures.1 in
+pub returns-in_err-first : goal.returns-in_err-first
+returns-in_err-first c =
+    let p = err_from_is_err_and c.from_residual.result c.from_residual.ensures.1 in
     let bytes : List ℕ = c.args.«record».now in
     let there : 0 < length bytes = search rules in
-    let f = c.in-err-first.field-0.0 in
-    let h = c.in-err-first.ensures in
+    let f = c.in_err-first.field-0.0 in
+    let h = c.in_err-first.ensures in
     p.1 ∙ ap Err (p.2 ∙ at_zero f h.1) ∙ sym (record-refused bytes f.cause there h.0)
 
 pub unreachable-requires : goal.unreachable-requires
-unreachable-requires c = let e = first-edition c.args.«record».now _ c.in-ok-first.ensures in c.in_default.not-Edition e.0 e.1
+unreachable-requires c = let e = first-edition c.args.«record».now _ c.in_ok-first.ensures in c.in_default.not-Edition e.0 e.1
 
 room : (bytes rest after : List ℕ) → length rest < length bytes → length after ≤ length rest → length after ≤ length bytes
 room bytes rest after h k = omega arith
 
-pub tally-under-requires : goal.tally-under-requires
-tally-under-requires c =
-    (c.take-mount-mount.ensures.allowed, room c.args.«record».now c.in-ok-first.first.rest.now _ (field-shorter _ c.args.«record».now _ c.in-ok-first.ensures) c.take-mount-mount.ensures.shorter)
+pub tally_under-requires : goal.tally_under-requires
+tally_under-requires c =
+    (c.take_mount-mount.ensures.allowed, room c.args.«record».now c.in_ok-first.first.rest.now _ (field-shorter _ c.args.«record».now _ c.in_ok-first.ensures) c.take_mount-mount.ensures.shorter)
 
-pub tally-under-requires-in-HalfTurns : goal.tally-under-requires-in-HalfTurns
-tally-under-requires-in-HalfTurns c =
-    (c.take-mount-mount.ensures.allowed, room c.args.«record».now c.in-ok-first.first.rest.now _ (field-shorter _ c.args.«record».now _ c.in-ok-first.ensures) c.take-mount-mount.ensures.shorter)
+pub tally_under-requires-in-HalfTurns : goal.tally_under-requires-in-HalfTurns
+tally_under-requires-in-HalfTurns c =
+    (c.take_mount-mount.ensures.allowed, room c.args.«record».now c.in_ok-first.first.rest.now _ (field-shorter _ c.args.«record».now _ c.in_ok-first.ensures) c.take_mount-mount.ensures.shorter)
 
 pub returns-in-Radians : goal.returns-in-Radians
 returns-in-Radians c =
     let bytes : List ℕ = c.args.«record».now in
     let there : 0 < length bytes = search rules in
-    let m = c.take-mount-mount.result in
+    let m = c.take_mount-mount.result in
     let e : Edition = c.in-Edition.edition in
-    let r = record-read bytes _ e m.mount m.rest.now m.state there c.in-ok-first.ensures c.in-Edition.is c.take-mount-mount.ensures in
-    c.tally-under.ensures r.0 r.1
+    let r = record-read bytes _ e m.mount m.rest.now m.state there c.in_ok-first.ensures c.in-Edition.is c.take_mount-mount.ensures in
+    c.tally_under.ensures r.0 r.1
     ∙ ap (λ z. and_then (replay (steps_under m.mount (edition_steps z)) [] (fields r.0 m.state (length bytes) m.rest.now)) (λ book. Ok (tally_of e (answer_under m.mount (edition_answer z)) book))) (sym c.in-Radians.is)
     ∙ sym r.2
 
@@ -59,9 +59,9 @@ pub returns-in-HalfTurns : goal.returns-in-HalfTurns
 returns-in-HalfTurns c =
     let bytes : List ℕ = c.args.«record».now in
     let there : 0 < length bytes = search rules in
-    let m = c.take-mount-mount.result in
+    let m = c.take_mount-mount.result in
     let e : Edition = c.in-Edition.edition in
-    let r = record-read bytes _ e m.mount m.rest.now m.state there c.in-ok-first.ensures c.in-Edition.is c.take-mount-mount.ensures in
-    c.tally-under-in-HalfTurns.ensures r.0 r.1
+    let r = record-read bytes _ e m.mount m.rest.now m.state there c.in_ok-first.ensures c.in-Edition.is c.take_mount-mount.ensures in
+    c.tally_under-in-HalfTurns.ensures r.0 r.1
     ∙ ap (λ z. and_then (replay (steps_under m.mount (edition_steps z)) [] (fields r.0 m.state (length bytes) m.rest.now)) (λ book. Ok (tally_of e (answer_under m.mount (edition_answer z)) book))) (sym c.in-HalfTurns.is)
     ∙ sym r.2

@@ -15,10 +15,10 @@ returns-in_default c =
     let u = c.unmounted.ensures in
     as_it_stands c.args.bytes.now _ _ _ u.mount u.rest u.state (opens-none c.args.bytes.now (Err c.in_default.field-0) c.in_default.ensures refl)
 
-pub returns-in_default-mount-in : goal.returns-in_default-mount-in
-returns-in_default-mount-in c =
-    let u = c.unmounted-in_default-mount-in.ensures in
-    as_it_stands c.args.bytes.now _ _ _ u.mount u.rest u.state (opens-none c.args.bytes.now _ c.in-Ok.ensures (sym c.in_default-mount-in.ensures))
+pub returns-in_default-mount_in : goal.returns-in_default-mount_in
+returns-in_default-mount_in c =
+    let u = c.unmounted-in_default-mount_in.ensures in
+    as_it_stands c.args.bytes.now _ _ _ u.mount u.rest u.state (opens-none c.args.bytes.now _ c.in-Ok.ensures (sym c.in_default-mount_in.ensures))
 
 pub returns : goal.returns
 returns c = opens_mount c.args.bytes.now _ c.in-Some.m c.in-Ok.ensures (sym c.in-Some.ensures)

@@ -26,23 +26,23 @@ followed g r r0 before after res q state total bytes n e b f l h =
     let step : (x : g.row.R.Denot) (z : Result (Unit {0}) RecordFault) → Type 0 = λ x z. Follows (g.R.Reader.answer x) after (replay (g.R.Reader.steps x) [] (fields n state total bytes)) z in
     subst (step r0) f (subst (λ x. step x res) e (h n [] l (none_yet (g.R.Reader.answer r) before b)))
 
-pub returns-in-err-read-rows : goal.returns-in-err-read-rows
-returns-in-err-read-rows g c n l =
-    let p = err_from_is_err_and c.from-residual.result c.from-residual.ensures.1 in
-    let f = c.in-err-read-rows.field-0.0 in
+pub returns-in_err-read_rows : goal.returns-in_err-read_rows
+returns-in_err-read_rows g c n l =
+    let p = err_from_is_err_and c.from_residual.result c.from_residual.ensures.1 in
+    let f = c.in_err-read_rows.field-0.0 in
     p.1 ∙ ap Err p.2
-    ∙ tally-refused (g.R.Reader.answer c.args.reader) (rows c.read-rows.new.sheet) _ c.args.edition f
-    (followed g c.new-sheet.result.reader c.args.reader (rows c.new-sheet.result) (rows c.read-rows.new.sheet) c.read-rows.result (Err f) c.args.state c.args.total c.args.rest.now n c.new-sheet.ensures.reader c.new-sheet.ensures.rows c.in-err-read-rows.was l c.read-rows.ensures.made)
+    ∙ tally-refused (g.R.Reader.answer c.args.reader) (rows c.read_rows.new.sheet) _ c.args.edition f
+    (followed g c.new-sheet.result.reader c.args.reader (rows c.new-sheet.result) (rows c.read_rows.new.sheet) c.read_rows.result (Err f) c.args.state c.args.total c.args.rest.now n c.new-sheet.ensures.reader c.new-sheet.ensures.rows c.in_err-read_rows.was l c.read_rows.ensures.made)
 
-pub overflow-cast-result : goal.overflow-cast-result
-overflow-cast-result g c =
-    let s = c.read-rows.new.sheet in
+pub overflow_cast-result : goal.overflow_cast-result
+overflow_cast-result g c =
+    let s = c.read_rows.new.sheet in
     omega (arith, c.count.ensures, length-take s.table.count s.table.rows, s.within)
 
 pub returns : goal.returns
 returns g c n l =
-    let s = c.read-rows.new.sheet in
+    let s = c.read_rows.new.sheet in
     let t = c.totals-totals.ensures in
     tally-made (g.R.Reader.answer c.args.reader) (rows s) _ c.args.edition _ _ _ _
-    (followed g c.new-sheet.result.reader c.args.reader (rows c.new-sheet.result) (rows s) c.read-rows.result (Ok tt) c.args.state c.args.total c.args.rest.now n c.new-sheet.ensures.reader c.new-sheet.ensures.rows c.in-ok-read-rows.was l c.read-rows.ensures.made)
+    (followed g c.new-sheet.result.reader c.args.reader (rows c.new-sheet.result) (rows s) c.read_rows.result (Ok tt) c.args.state c.args.total c.args.rest.now n c.new-sheet.ensures.reader c.new-sheet.ensures.rows c.in_ok-read_rows.was l c.read_rows.ensures.made)
     c.count.ensures t.speed (to_z-of_z w64 _ (search rules) ∙ t.along) (to_z-of_z w64 _ (search rules) ∙ t.across)

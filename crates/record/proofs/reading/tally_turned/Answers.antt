@@ -8,4 +8,4 @@ use Rattle.record.proofs.reading.tally_turned.Goals as goal
 pub returns : goal.returns
 returns g c n l =
     let outcome : g.row.R.Denot → ℕ → _ = λ below q. and_then (replay (λ w. turned_steps q (g.R.Reader.steps below w)) [] (fields n c.args.state c.args.total c.args.rest.now)) (λ book. Ok (tally_of c.args.edition (λ w. turned_answer q (g.R.Reader.answer below w)) book)) in
-    c.tally-rows.ensures n l ∙ ap (λ b. outcome b c.in-Ok.mounted.quarters) c.in-Ok.ensures.0 ∙ ap (outcome c.args.below) c.in-Ok.ensures.1
+    c.tally_rows.ensures n l ∙ ap (λ b. outcome b c.in-Ok.mounted.quarters) c.in-Ok.ensures.0 ∙ ap (outcome c.args.below) c.in-Ok.ensures.1

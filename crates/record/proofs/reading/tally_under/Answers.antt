@@ -18,13 +18,13 @@ within e fs steps answer q b = and_then (replay (λ w. turned_steps q (mirror_st
 pub returns-in-None : goal.returns-in-None
 unfolding under
 returns-in-None g c n l =
-    c.tally-rows.ensures n l ∙ ap (under c.args.edition (fields n c.args.state c.args.total c.args.rest.now) (g.R.Reader.steps c.args.below) (g.R.Reader.answer c.args.below)) (sym c.in-None.is)
+    c.tally_rows.ensures n l ∙ ap (under c.args.edition (fields n c.args.state c.args.total c.args.rest.now) (g.R.Reader.steps c.args.below) (g.R.Reader.answer c.args.below)) (sym c.in-None.is)
 
 pub returns-then-m : goal.returns-then-m
 unfolding under within
 returns-then-m g c n l =
     let fs = fields n c.args.state c.args.total c.args.rest.now in
-    c.tally-turned.ensures n l
+    c.tally_turned.ensures n l
     ∙ ap (within c.args.edition fs (g.R.Reader.steps c.args.below) (g.R.Reader.answer c.args.below) c.in-Some.m.quarters) (sym c.if-m.true)
     ∙ ap (under c.args.edition fs (g.R.Reader.steps c.args.below) (g.R.Reader.answer c.args.below)) (sym c.in-Some.is)
 
@@ -32,6 +32,6 @@ pub returns-else-m : goal.returns-else-m
 unfolding under within
 returns-else-m g c n l =
     let fs = fields n c.args.state c.args.total c.args.rest.now in
-    c.tally-turned-else-m.ensures n l
+    c.tally_turned-else-m.ensures n l
     ∙ ap (within c.args.edition fs (g.R.Reader.steps c.args.below) (g.R.Reader.answer c.args.below) c.in-Some.m.quarters) (sym c.if-m.false)
     ∙ ap (under c.args.edition fs (g.R.Reader.steps c.args.below) (g.R.Reader.answer c.args.below)) (sym c.in-Some.is)

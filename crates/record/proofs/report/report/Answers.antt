@@ -16,13 +16,13 @@ decided room bytes h l = cond-false (ltb room 96) _ _ (le-ltb room 96 h) ∙ con
 refused : (o : Result Tally RecordFault) (f e : RecordFault) (page : List ℕ) (r : Result ℕ RecordFault) → o ≡ Err f → r ≡ Err e → e ≡ f → Reported o r page page
 refused o f e page r p q s = subst (λ z. Reported z r page page) (sym p) (subst (λ z. Reported (Err f) z page page) (sym q) (s, refl))
 
-pub returns-in-err-tally : goal.returns-in-err-tally
-returns-in-err-tally c =
-    let p = err_from_is_err_and c.from-residual.result c.from-residual.ensures.1 in
+pub returns-in_err-tally : goal.returns-in_err-tally
+returns-in_err-tally c =
+    let p = err_from_is_err_and c.from_residual.result c.from_residual.ensures.1 in
     let bytes : List ℕ = c.args.bytes.now in
     let room : ℕ = length c.args.buffer.now in
     record {
-      outcome = refused (outcome_of room bytes) c.in-err-tally.field-0.0 p.0 c.args.buffer.now c.from-residual.result (decided room bytes c.if-buffer-lt-ROOM.false c.if-bytes-gt-LONGEST.false ∙ sym c.in-err-tally.ensures) p.1 p.2;
+      outcome = refused (outcome_of room bytes) c.in_err-tally.field-0.0 p.0 c.args.buffer.now c.from_residual.result (decided room bytes c.if-buffer-lt-ROOM.false c.if-bytes-gt-LONGEST.false ∙ sym c.in_err-tally.ensures) p.1 p.2;
       means = outcome-means room bytes (λ i. (c.type_inv.bytes i).fits);
     }
 
@@ -33,10 +33,10 @@ pub returns : goal.returns
 returns c =
     let bytes : List ℕ = c.args.bytes.now in
     let room : ℕ = length c.args.buffer.now in
-    let t : Tally = c.in-ok-tally.tally in
+    let t : Tally = c.in_ok-tally.tally in
     record {
-      outcome = written (outcome_of room bytes) t c.write-lines.result c.args.buffer.now c.write-lines.new.buffer _ (decided room bytes c.if-buffer-lt-ROOM.false c.if-bytes-gt-LONGEST.false ∙ sym c.in-ok-tally.ensures)
+      outcome = written (outcome_of room bytes) t c.write_lines.result c.args.buffer.now c.write_lines.new.buffer _ (decided room bytes c.if-buffer-lt-ROOM.false c.if-bytes-gt-LONGEST.false ∙ sym c.in_ok-tally.ensures)
           (ap (λ z. lines t.edition t.rows t.speed z (to_z w64 (of_z w64 t.across))) (to_z-of_z w64 t.along (search rules)) ∙ ap (lines t.edition t.rows t.speed t.along) (to_z-of_z w64 t.across (search rules)))
-          c.write-lines.ensures.end c.write-lines.ensures.page;
+          c.write_lines.ensures.end c.write_lines.ensures.page;
       means = outcome-means room bytes (λ i. (c.type_inv.bytes i).fits);
     }

@@ -15,25 +15,25 @@ rows-line n h = count-line 5 (codes "rows ") n (omega arith) (omega arith) (omeg
 speed-line : (n : ℕ) → n < 4294967296 → length (line (codes "speed ") (decimal n)) ≤ 17
 speed-line n h = count-line 10 (codes "speed ") n (omega arith) (omega arith) (omega arith)
 
-pub put-line-a-requires : goal.put-line-a-requires
-put-line-a-requires c = omega (arith, edition-line c.number.result (omega arith))
+pub put_line-a-requires : goal.put_line-a-requires
+put_line-a-requires c = omega (arith, edition-line c.number.result (omega arith))
 
-pub put-line-b-requires : goal.put-line-b-requires
-put-line-b-requires c = omega (arith, edition-line c.number.result (omega arith), rows-line c.args.rows (omega arith), c.put-line-a.ensures.end)
+pub put_line-b-requires : goal.put_line-b-requires
+put_line-b-requires c = omega (arith, edition-line c.number.result (omega arith), rows-line c.args.rows (omega arith), c.put_line-a.ensures.end)
 
-pub put-line-c-requires : goal.put-line-c-requires
-put-line-c-requires c = omega (arith, edition-line c.number.result (omega arith), rows-line c.args.rows (omega arith), speed-line c.args.speed (omega arith), c.put-line-a.ensures.end, c.put-line-b.ensures.end)
+pub put_line-c-requires : goal.put_line-c-requires
+put_line-c-requires c = omega (arith, edition-line c.number.result (omega arith), rows-line c.args.rows (omega arith), speed-line c.args.speed (omega arith), c.put_line-a.ensures.end, c.put_line-b.ensures.end)
 
 same_size : (word : List ℕ) (z w : ℤ) → w ≡ z → length (line word (signed_decimal w)) ≡ length (line word (signed_decimal z))
 same_size word z w e = ap (λ x. length (line word (signed_decimal x))) e
 
-pub put-signed-line-d-requires : goal.put-signed-line-d-requires
-put-signed-line-d-requires c =
-    omega (arith, edition-line c.number.result (omega arith), rows-line c.args.rows (omega arith), speed-line c.args.speed (omega arith), signed-line (codes "along ") c.args.along c.ranges.along, same_size (codes "along ") c.args.along _ (to_z-of_z w64 c.args.along c.ranges.along), c.put-line-a.ensures.end, c.put-line-b.ensures.end, c.put-line-c.ensures.end)
+pub put_signed_line-d-requires : goal.put_signed_line-d-requires
+put_signed_line-d-requires c =
+    omega (arith, edition-line c.number.result (omega arith), rows-line c.args.rows (omega arith), speed-line c.args.speed (omega arith), signed-line (codes "along ") c.args.along c.ranges.along, same_size (codes "along ") c.args.along _ (to_z-of_z w64 c.args.along c.ranges.along), c.put_line-a.ensures.end, c.put_line-b.ensures.end, c.put_line-c.ensures.end)
 
-pub put-signed-line-requires : goal.put-signed-line-requires
-put-signed-line-requires c =
-    omega (arith, edition-line c.number.result (omega arith), rows-line c.args.rows (omega arith), speed-line c.args.speed (omega arith), signed-line (codes "along ") c.args.along c.ranges.along, signed-line (codes "across ") c.args.across c.ranges.across, same_size (codes "along ") c.args.along _ (to_z-of_z w64 c.args.along c.ranges.along), same_size (codes "across ") c.args.across _ (to_z-of_z w64 c.args.across c.ranges.across), c.put-line-a.ensures.end, c.put-line-b.ensures.end, c.put-line-c.ensures.end, c.put-signed-line-d.ensures.end)
+pub put_signed_line-requires : goal.put_signed_line-requires
+put_signed_line-requires c =
+    omega (arith, edition-line c.number.result (omega arith), rows-line c.args.rows (omega arith), speed-line c.args.speed (omega arith), signed-line (codes "along ") c.args.along c.ranges.along, signed-line (codes "across ") c.args.across c.ranges.across, same_size (codes "along ") c.args.along _ (to_z-of_z w64 c.args.along c.ranges.along), same_size (codes "across ") c.args.across _ (to_z-of_z w64 c.args.across c.ranges.across), c.put_line-a.ensures.end, c.put_line-b.ensures.end, c.put_line-c.ensures.end, c.put_signed_line-d.ensures.end)
 
 pub returns : goal.returns
 unfolding lines
@@ -41,14 +41,14 @@ returns c =
     let n : c.number.result ≡ edition_number c.args.edition = c.number.ensures in
     let ea = to_z-of_z w64 c.args.along c.ranges.along in
     let eb = to_z-of_z w64 c.args.across c.ranges.across in
-    let r = five c.args.buffer.now c.put-line-a.new.buffer c.put-line-b.new.buffer c.put-line-c.new.buffer c.put-signed-line-d.new.buffer _ c.put-line-a.result c.put-line-b.result c.put-line-c.result c.put-signed-line-d.result _
+    let r = five c.args.buffer.now c.put_line-a.new.buffer c.put_line-b.new.buffer c.put_line-c.new.buffer c.put_signed_line-d.new.buffer _ c.put_line-a.result c.put_line-b.result c.put_line-c.result c.put_signed_line-d.result _
     (line (codes "edition ") (decimal (edition_number c.args.edition))) (line (codes "rows ") (decimal c.args.rows)) (line (codes "speed ") (decimal c.args.speed)) (line (codes "along ") (signed_decimal c.args.along)) (line (codes "across ") (signed_decimal c.args.across))
     (omega (arith, ap (λ k. length (line (codes "edition ") (decimal k))) n, edition-line c.number.result (omega arith), rows-line c.args.rows (omega arith), speed-line c.args.speed (omega arith), signed-line (codes "along ") c.args.along c.ranges.along, signed-line (codes "across ") c.args.across c.ranges.across, c.requires))
-    (c.put-line-a.ensures.page ∙ ap (λ k. pasted c.args.buffer.now 0 (line (codes "edition ") (decimal k))) n)
-    (c.put-line-a.ensures.end ∙ ap (λ k. 0 + length (line (codes "edition ") (decimal k))) n)
-    c.put-line-b.ensures.page c.put-line-b.ensures.end c.put-line-c.ensures.page c.put-line-c.ensures.end
-    (c.put-signed-line-d.ensures.page ∙ ap (λ z. pasted c.put-line-c.new.buffer c.put-line-c.result (line (codes "along ") (signed_decimal z))) ea)
-    (c.put-signed-line-d.ensures.end ∙ ap (λ z. c.put-line-c.result + length (line (codes "along ") (signed_decimal z))) ea)
-    (c.put-signed-line.ensures.page ∙ ap (λ z. pasted c.put-signed-line-d.new.buffer c.put-signed-line-d.result (line (codes "across ") (signed_decimal z))) eb)
-    (c.put-signed-line.ensures.end ∙ ap (λ z. c.put-signed-line-d.result + length (line (codes "across ") (signed_decimal z))) eb) in
+    (c.put_line-a.ensures.page ∙ ap (λ k. pasted c.args.buffer.now 0 (line (codes "edition ") (decimal k))) n)
+    (c.put_line-a.ensures.end ∙ ap (λ k. 0 + length (line (codes "edition ") (decimal k))) n)
+    c.put_line-b.ensures.page c.put_line-b.ensures.end c.put_line-c.ensures.page c.put_line-c.ensures.end
+    (c.put_signed_line-d.ensures.page ∙ ap (λ z. pasted c.put_line-c.new.buffer c.put_line-c.result (line (codes "along ") (signed_decimal z))) ea)
+    (c.put_signed_line-d.ensures.end ∙ ap (λ z. c.put_line-c.result + length (line (codes "along ") (signed_decimal z))) ea)
+    (c.put_signed_line.ensures.page ∙ ap (λ z. pasted c.put_signed_line-d.new.buffer c.put_signed_line-d.result (line (codes "across ") (signed_decimal z))) eb)
+    (c.put_signed_line.ensures.end ∙ ap (λ z. c.put_signed_line-d.result + length (line (codes "across ") (signed_decimal z))) eb) in
     record { page = r.0; end = r.1 }

@@ -40,41 +40,41 @@ turn-made g r r0 item before after res q e f h =
     let step : (x : g.row.R.Denot) (z : Result (Unit {0}) Cause) → Type 0 = λ x z. (offset : ℕ) (book : List Entry) → Grown (g.R.Reader.answer x) book before → Follows (g.R.Reader.answer x) after (located offset (put (g.R.Reader.steps x) book item)) (located offset z) in
     subst (step r0) f (subst (λ x. step x res) e h)
 
-pub returns-in-err-field : goal.returns-in-err-field
-returns-in-err-field g c =
-    let p = err_from_is_err_and c.from-residual.result c.from-residual.ensures.1 in
-    let h = c.in-err-field.ensures in
+pub returns-in_err-field : goal.returns-in_err-field
+returns-in_err-field g c =
+    let p = err_from_is_err_and c.from_residual.result c.from_residual.ensures.1 in
+    let h = c.in_err-field.ensures in
     let bytes : List ℕ = c.loop-rest.rest.now in
     let there : 0 < length bytes = search rules in
     record {
       made = λ n book l old.
-          both-refuse _ _ _ c.from-residual.result c.in-err-field.field-0.0
-          (refused-field _ _ c.args.total _ bytes c.loop-rest.state _ there (c.loop-rest.invariant.2 n book l old) c.in-err-field.field-0.0.cause h.0 ∙ ap Err (sym (fault-is c.in-err-field.field-0.0 _ (c.args.total - length bytes) refl h.1)))
+          both-refuse _ _ _ c.from_residual.result c.in_err-field.field-0.0
+          (refused-field _ _ c.args.total _ bytes c.loop-rest.state _ there (c.loop-rest.invariant.2 n book l old) c.in_err-field.field-0.0.cause h.0 ∙ ap Err (sym (fault-is c.in_err-field.field-0.0 _ (c.args.total - length bytes) refl h.1)))
           (p.1 ∙ ap Err p.2);
       reader = c.loop-rest.invariant.1;
     }
 
-pub returns-in-err-at-offset : goal.returns-in-err-at-offset
-returns-in-err-at-offset g c =
-    let p = err_from_is_err_and c.from-residual-in-err-at-offset.result c.from-residual-in-err-at-offset.ensures.1 in
+pub returns-in_err-at_offset : goal.returns-in_err-at_offset
+returns-in_err-at_offset g c =
+    let p = err_from_is_err_and c.from_residual-in_err-at_offset.result c.from_residual-in_err-at_offset.ensures.1 in
     let bytes : List ℕ = c.loop-rest.rest.now in
     let there : 0 < length bytes = search rules in
     let offset : ℕ = c.args.total - length bytes in
-    let after : List Row = rows c.put-item.new.sheet in
-    let item : Item = c.in-ok-field.field.item in
-    let q = placed-err c.put-item.result offset c.in-err-at-offset.field-0.0 (sym c.at-offset.ensures ∙ c.in-err-at-offset.was) in
-    let F = turn-made g c.loop-rest.sheet.reader c.args.sheet.now.reader item (rows c.loop-rest.sheet) after c.put-item.result (Err q.0) c.loop-rest.invariant.1 q.1 c.put-item.ensures.made offset in
+    let after : List Row = rows c.put_item.new.sheet in
+    let item : Item = c.in_ok-field.field.item in
+    let q = placed-err c.put_item.result offset c.in_err-at_offset.field-0.0 (sym c.at_offset.ensures ∙ c.in_err-at_offset.was) in
+    let F = turn-made g c.loop-rest.sheet.reader c.args.sheet.now.reader item (rows c.loop-rest.sheet) after c.put_item.result (Err q.0) c.loop-rest.invariant.1 q.1 c.put_item.ensures.made offset in
     record {
       made = λ n book l old.
           let R = c.loop-rest.invariant.2 n book l old in
-          both-refuse _ after _ c.from-residual-in-err-at-offset.result c.in-err-at-offset.field-0.0
-          (refused-call _ _ c.args.total _ bytes c.loop-rest.state _ there R _ c.in-ok-field.ensures after q.0 (F R.book R.grown) ∙ ap Err (sym q.2))
+          both-refuse _ after _ c.from_residual-in_err-at_offset.result c.in_err-at_offset.field-0.0
+          (refused-call _ _ c.args.total _ bytes c.loop-rest.state _ there R _ c.in_ok-field.ensures after q.0 (F R.book R.grown) ∙ ap Err (sym q.2))
           (p.1 ∙ ap Err p.2);
-      reader = c.put-item.ensures.reader ∙ c.loop-rest.invariant.1;
+      reader = c.put_item.ensures.reader ∙ c.loop-rest.invariant.1;
     }
 
 pub loop-rest-smaller : goal.loop-rest-smaller
-loop-rest-smaller g c = field-shorter c.loop-rest.state c.loop-rest.rest.now _ c.in-ok-field.ensures
+loop-rest-smaller g c = field-shorter c.loop-rest.state c.loop-rest.rest.now _ c.in_ok-field.ensures
 
 pub loop-rest-init : goal.loop-rest-init
 loop-rest-init g c = (c.requires, refl, λ n book l old. record { book = book; fuel = n; grown = old; enough = l; same = refl })
@@ -84,16 +84,16 @@ loop-rest-preserved g c =
     let bytes : List ℕ = c.loop-rest.rest.now in
     let there : 0 < length bytes = search rules in
     let offset : ℕ = c.args.total - length bytes in
-    let after : List Row = rows c.put-item.new.sheet in
-    let item : Item = c.in-ok-field.field.item in
-    let q = placed-ok c.put-item.result offset _ (sym c.at-offset.ensures ∙ c.in-ok-at-offset.was) in
-    let F = turn-made g c.loop-rest.sheet.reader c.args.sheet.now.reader item (rows c.loop-rest.sheet) after c.put-item.result (Ok tt) c.loop-rest.invariant.1 q c.put-item.ensures.made offset in
-    let s : length c.in-ok-field.field.rest.now < length bytes = field-shorter c.loop-rest.state bytes _ c.in-ok-field.ensures in (
+    let after : List Row = rows c.put_item.new.sheet in
+    let item : Item = c.in_ok-field.field.item in
+    let q = placed-ok c.put_item.result offset _ (sym c.at_offset.ensures ∙ c.in_ok-at_offset.was) in
+    let F = turn-made g c.loop-rest.sheet.reader c.args.sheet.now.reader item (rows c.loop-rest.sheet) after c.put_item.result (Ok tt) c.loop-rest.invariant.1 q c.put_item.ensures.made offset in
+    let s : length c.in_ok-field.field.rest.now < length bytes = field-shorter c.loop-rest.state bytes _ c.in_ok-field.ensures in (
       omega (arith, s, c.loop-rest.invariant.0),
-      c.put-item.ensures.reader ∙ c.loop-rest.invariant.1,
+      c.put_item.ensures.reader ∙ c.loop-rest.invariant.1,
       λ n book l old.
           let R = c.loop-rest.invariant.2 n book l old in
-          reached-more _ _ c.args.total _ bytes c.loop-rest.state _ there R _ c.in-ok-field.ensures after (F R.book R.grown),
+          reached-more _ _ c.args.total _ bytes c.loop-rest.state _ there R _ c.in_ok-field.ensures after (F R.book R.grown),
     )
 
 pub returns : goal.returns
