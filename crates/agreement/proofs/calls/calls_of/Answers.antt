@@ -22,7 +22,7 @@ pub loop-rest-preserved : goal.loop-rest-preserved
 loop-rest-preserved c =
     let there : 0 < length c.loop-rest.rest.now = search rules in
     let i = c.loop-rest.invariant in
-    calls-more _ _ _ c.loop-rest.state _ c.loop-rest.rest.now _ there c.in-Ok.ensures c.in-ok-push-call.ensures i.0 i.1 i.2
+    calls-more _ _ _ c.loop-rest.state _ c.loop-rest.rest.now _ there c.in-Ok.ensures c.in_ok-push_call.ensures i.0 i.1 i.2
 
 pub returns : goal.returns
 returns c =

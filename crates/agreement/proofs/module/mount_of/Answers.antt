@@ -7,6 +7,6 @@ returns-in_default c = record { allowed = omega arith; first = first-refused c.a
 
 pub returns : goal.returns
 returns c = record {
-  allowed = allowed-said c.args.state c.args.bytes.now _ _ c.in-Ok.ensures c.mount-in.ensures;
-  first = first_says c.args.state c.args.bytes.now _ _ c.in-Ok.ensures c.mount-in.ensures;
+  allowed = allowed-said c.args.state c.args.bytes.now _ _ c.in-Ok.ensures c.mount_in.ensures;
+  first = first_says c.args.state c.args.bytes.now _ _ c.in-Ok.ensures c.mount_in.ensures;
 }

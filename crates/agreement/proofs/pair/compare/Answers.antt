@@ -19,4 +19,4 @@ meant e e' m m' p q i = steps_under (q i) (edition_steps (p i))
 
 pub returns : goal.returns
 returns c =
-    alike _ _ _ _ _ _ _ _ c.totals-over.result.one c.totals-over.result.other (meant _ _ _ _ c.of.ensures.edition c.of.ensures.mount) (c.as-slice.ensures.value ∙ c.in-ok-calls.ensures) (meant _ _ _ _ c.of-2.ensures.edition c.of-2.ensures.mount) (c.as-slice-2.ensures.value ∙ c.in-ok-others.ensures) c.totals-over.ensures
+    alike _ _ _ _ _ _ _ _ c.totals_over.result.one c.totals_over.result.other (meant _ _ _ _ c.of.ensures.edition c.of.ensures.mount) (c.as_slice.ensures.value ∙ c.in_ok-calls.ensures) (meant _ _ _ _ c.of-2.ensures.edition c.of-2.ensures.mount) (c.as_slice-2.ensures.value ∙ c.in_ok-others.ensures) c.totals_over.ensures

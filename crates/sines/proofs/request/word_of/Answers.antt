@@ -3,29 +3,29 @@ use Rattle.sines.specs.Reading.{digit_of, word_of}
 use Rattle.sines.proofs.Digits.{stops, small, goes_on, word_fits, ends}
 use Rattle.sines.proofs.request.word_of.Goals as goal
 
-pub returns-in-err-d : goal.returns-in-err-d
-returns-in-err-d c =
+pub returns-in_err-d : goal.returns-in_err-d
+returns-in_err-d c =
     let text = c.args.text.now in
     let i = c.loop-b.b-index in
     let h : i < length text = search rules in
-    c.from-residual.ensures ∙ stops text c.loop-b.word i h c.loop-b.invariant.0 c.loop-b.invariant.1 (sym c.digit.ensures ∙ c.in-err-d.was)
+    c.from_residual.ensures ∙ stops text c.loop-b.word i h c.loop-b.invariant.0 c.loop-b.invariant.1 (sym c.digit.ensures ∙ c.in_err-d.was)
 
-pub overflow-mul-word : goal.overflow-mul-word
-overflow-mul-word c =
+pub overflow_mul-word : goal.overflow_mul-word
+overflow_mul-word c =
     let text = c.args.text.now in
     let i = c.loop-b.b-index in
     let h : i < length text = search rules in
     let l : length text ≤ 8 = le_of_eq c.requires in
-    let f : c.loop-b.word * 16 + c.in-ok-d.d < 2 ^ 32 = word_fits text c.loop-b.word i h c.loop-b.invariant.0 c.loop-b.invariant.1 c.in-ok-d.d (omega arith) (sym c.digit.ensures ∙ c.in-ok-d.was) in
+    let f : c.loop-b.word * 16 + c.in_ok-d.d < 2 ^ 32 = word_fits text c.loop-b.word i h c.loop-b.invariant.0 c.loop-b.invariant.1 c.in_ok-d.d (omega arith) (sym c.digit.ensures ∙ c.in_ok-d.was) in
     record { fits = omega arith }
 
-pub overflow-add-word : goal.overflow-add-word
-overflow-add-word c =
+pub overflow_add-word : goal.overflow_add-word
+overflow_add-word c =
     let text = c.args.text.now in
     let i = c.loop-b.b-index in
     let h : i < length text = search rules in
     let l : length text ≤ 8 = le_of_eq c.requires in
-    let f : c.loop-b.word * 16 + c.in-ok-d.d < 2 ^ 32 = word_fits text c.loop-b.word i h c.loop-b.invariant.0 c.loop-b.invariant.1 c.in-ok-d.d (omega arith) (sym c.digit.ensures ∙ c.in-ok-d.was) in
+    let f : c.loop-b.word * 16 + c.in_ok-d.d < 2 ^ 32 = word_fits text c.loop-b.word i h c.loop-b.invariant.0 c.loop-b.invariant.1 c.in_ok-d.d (omega arith) (sym c.digit.ensures ∙ c.in_ok-d.was) in
     record { fits = omega arith }
 
 pub loop-b-preserved : goal.loop-b-preserved
@@ -34,7 +34,7 @@ loop-b-preserved c =
     let w = c.loop-b.word in
     let i = c.loop-b.b-index in
     let h : i < length text = search rules in
-    let e : digit_of (get_or text i 0) ≡ Some c.from.result = sym c.digit.ensures ∙ c.in-ok-d.was ∙ mathlib.Core.Path.ap Some (sym c.from.ensures) in
+    let e : digit_of (get_or text i 0) ≡ Some c.from.result = sym c.digit.ensures ∙ c.in_ok-d.was ∙ mathlib.Core.Path.ap Some (sym c.from.ensures) in
     (small text w i h c.loop-b.invariant.0 c.loop-b.invariant.1 c.from.result e, goes_on text w i h c.loop-b.invariant.0 c.loop-b.invariant.1 c.from.result e)
 
 pub returns : goal.returns

@@ -11,5 +11,5 @@ unreachable-requires c = let e = first-edition c.args.bytes.now _ c.in-Ok.ensure
 
 pub returns : goal.returns
 returns c =
-    let b = both-said c.args.bytes.now _ _ _ c.in-Ok.ensures c.in-Edition.is c.mount-of.ensures.first in
+    let b = both-said c.args.bytes.now _ _ _ c.in-Ok.ensures c.in-Edition.is c.mount_of.ensures.first in
     record { edition = b.0; mount = b.1 }
