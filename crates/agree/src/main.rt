@@ -1,4 +1,6 @@
 // Holds two records against each other: both sets of totals, how far they lie apart, and the limits that hold.
+#![tactic(auto)]
+
 use agreement::pair::{Pair, compare};
 use record::fault::RecordFault;
 use record::report::report;

@@ -1,5 +1,5 @@
 -- The calls of a record's fields, one after another.
-use Rattle.std.proofs.Common.{◌≡◌, ℕ, ◌<◌, ◌≤◌, List, [], ◌∷◌, ◌++◌, length, Ok, Err, Result, sym, refl, ap, ◌∙◌, arith}
+use Rattle.std.proofs.Common.{◌≡◌, ℕ, ◌<◌, ◌≤◌, List, [], ◌∷◌, ◌++◌, length, Ok, Err, sym, refl, ap, ◌∙◌, arith}
 use Rattle.sheets.specs.declared.book.Call.{Call}
 use Rattle.record.specs.declared.fault.Cause.{Cause}
 use Rattle.record.specs.declared.item.Item.{Item}

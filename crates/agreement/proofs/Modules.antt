@@ -1,10 +1,9 @@
 -- The edition and the mount that a record says.
-use Rattle.std.proofs.Common.{◌≡◌, ℕ, ◌-◌, ◌<◌, ◌≤◌, List, [], ◌∷◌, length, Some, None, Ok, Err, Option, Result, sym, refl, ap, ◌∙◌, subst, arith}
+use Rattle.std.proofs.Common.{◌≡◌, ℕ, ◌-◌, ◌≤◌, List, [], ◌∷◌, length, None, Ok, Err, Option, Result, sym, ap, ◌∙◌, subst, arith}
 use Rattle.record.specs.declared.edition.Edition.{Edition}
 use Rattle.record.specs.declared.edition.Edition.TheVariants as edition
 use Rattle.record.specs.declared.edition.Mount.{Mount}
 use Rattle.record.specs.declared.fault.Cause.{Cause}
-use Rattle.record.specs.declared.item.Item.{Item}
 use Rattle.record.specs.declared.item.Item.TheVariants as item
 use Rattle.record.specs.declared.state.State.{State}
 use Rattle.record.specs.declared.state.State.TheVariants as state

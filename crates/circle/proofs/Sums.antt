@@ -1,10 +1,9 @@
 -- The sine and the cosine of any sum.
 use mathlib.Core.List.{[], ◌∷◌}
 use Prim.Native.Nat.{ℕ, zero, suc}
-use lib.Dec.{T}
 use Rattle.exact.specs.Fraction.{Fraction, ◌≈◌, ◌⊑◌, ◌⊕◌, ◌⊗◌, ◌⊖◌, neg, whole, frac, tiny, Size, Within, leq}
 use Rattle.exact.proofs.Poly.{var, con, ◌:+◌, ◌:*◌, minus, ◌:-◌, free, same}
-use Rattle.exact.proofs.Order.{≈-refl, ≈-sym, ≈-trans, ≈→⊑, ⊑_trans, ⊕-cong, ⊗-cong, neg_cong, by-test, size-⊑, size-⊗, size-≈, triangle, within-sym, within-⊑, within-≈, within-⊕, within-neg, within-mul-right, ⊗-comm}
+use Rattle.exact.proofs.Order.{≈-refl, ≈-sym, ≈-trans, ≈→⊑, ⊑_trans, ⊕-cong, ⊗-cong, neg_cong, by-test, size-⊑, size-⊗, triangle, within-sym, within-⊑, within-≈, within-⊕, within-neg, within-mul-right, ⊗-comm}
 use Rattle.exact.proofs.Cert.{ring}
 use Rattle.circle.specs.Series.{sin_series, cos_series}
 use Rattle.circle.specs.Circle.{step, quarter, left, turns_on, Nearest, turns, nearest, exact_sine, exact_cosine, SumSine, SumCosine}

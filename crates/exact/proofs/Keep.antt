@@ -1,5 +1,5 @@
 -- Rounding keeps multiples of a power of two, and keeps a number at least as far from zero as a power of two.
-use Rattle.std.proofs.Common.{◌≡◌, ℕ, zero, suc, ◌+◌, ◌-◌, ◌*◌, ◌/◌, ◌^◌, ◌<◌, ◌≤◌, Bool, true, false, cond, not, T, ltb, leb, sym, ap, ◌∙◌, subst, inl, inr, le_trans, le_of_eq, le_of_lt, mul-le-mul_right, zero-lt-suc, mul_assoc, mul-pos, one-mul, mul-one, div-mul-le_self, arith, ltb→lt, leb→le, pow_pos, pow_mono}
+use Rattle.std.proofs.Common.{◌≡◌, ℕ, suc, ◌+◌, ◌-◌, ◌*◌, ◌/◌, ◌^◌, ◌<◌, ◌≤◌, Bool, true, false, cond, not, T, ltb, leb, sym, ap, ◌∙◌, subst, inl, inr, le_trans, le_of_eq, le_of_lt, mul-le-mul_right, zero-lt-suc, mul_assoc, mul-pos, one-mul, mul-one, div-mul-le_self, arith, ltb→lt, leb→le, pow_pos, pow_mono}
 use lib.Dec.{nleb→lt}
 use lib.Ieee.{Float, Format, inf, prec, emax, low, size, round, units, odd}
 use lib.Ieee.Digits.{size_reaches}

@@ -1,13 +1,13 @@
 -- The fused product and sum, and quotients.
-use Rattle.std.proofs.Common.{ℕ, zero, suc, ◌+◌, ◌*◌, ◌/◌, ◌<◌, Bool, true, false, T, zero-lt-suc, mul-pos, arith, ltb→lt, lt→ltb}
-use lib.Ieee.{Float, Format, nan, inf, fin, up, down, unlike, sum, div}
+use Rattle.std.proofs.Common.{zero, suc, ◌*◌, ◌<◌, Bool, true, false, T, zero-lt-suc, mul-pos, arith, ltb→lt, lt→ltb}
+use lib.Ieee.{Float, Format, nan, inf, fin, up, down, unlike, div}
 use lib.Ieee.Fits.{up_pos, down_pos}
 use lib.Ieee.Scale.{finite}
 use Rattle.std.specs.Float.{float_mul_add}
 use Rattle.exact.specs.Fraction.{Fraction, ◌≈◌, ◌⊕◌, ◌⊗◌, whole}
 use Rattle.exact.specs.Rounded.{Rounded}
 use Rattle.exact.specs.Value.{value_of, signed}
-use Rattle.exact.specs.Laws.{DivisionRounds, Quotient, Quotients}
+use Rattle.exact.specs.Laws.{DivisionRounds, Quotients}
 use Rattle.exact.proofs.Order.{≈-refl, ≈-trans, ⊗-cong, ⊗-assoc, ⊗-one}
 use Rattle.exact.proofs.Rounding.{sum-rounded, div-rounded, nonzero}
 

@@ -1,5 +1,5 @@
 -- Multiples of powers of two, and where a float operation on them is exact.
-use Rattle.std.proofs.Common.{◌≡◌, ℕ, suc, ◌+◌, ◌-◌, ◌*◌, ◌/◌, ◌^◌, ◌<◌, ◌≤◌, Bool, true, false, not, T, leb, [], ◌∷◌, sym, refl, ap, ◌∙◌, subst, inl, inr, le_trans, le_of_eq, lt_of_le_of_lt, le_of_lt, mul-le-mul_right, zero-lt-suc, mul_comm, eq-or-lt_of_le, one-mul, le_of_mul-le-mul_right, arith, leb→le, pow_pos, pow_mono, pow-add}
+use Rattle.std.proofs.Common.{◌≡◌, ℕ, suc, ◌+◌, ◌-◌, ◌*◌, ◌^◌, ◌<◌, ◌≤◌, Bool, true, false, not, T, leb, [], ◌∷◌, sym, refl, ap, ◌∙◌, subst, inl, inr, le_trans, le_of_eq, lt_of_le_of_lt, le_of_lt, mul-le-mul_right, zero-lt-suc, mul_comm, eq-or-lt_of_le, one-mul, le_of_mul-le-mul_right, arith, leb→le, pow_pos, pow_mono, pow-add}
 use lib.Dec.{nleb→lt}
 use lib.Pow.{pow-lt}
 use lib.Ieee.{Float, Format, prec, emax, low}

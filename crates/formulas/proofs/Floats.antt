@@ -1,5 +1,5 @@
 -- From words to floats.
-use Rattle.std.proofs.Common.{◌≡◌, ℕ, ◌^◌, ◌<◌, T, ◌≢◌, subst}
+use Rattle.std.proofs.Common.{ℕ, ◌^◌, ◌<◌, T, ◌≢◌, subst}
 use lib.Ieee.{Float, binary32, of_bits, to_bits, fits}
 use lib.Ieee.Bits.{of_bits-to_bits, to_bits-lt}
 use Rattle.exact.specs.Fraction.{Fraction}

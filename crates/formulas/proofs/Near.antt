@@ -16,7 +16,7 @@ use Rattle.forms.specs.Polyeval.{polyeval6}
 use Rattle.formulas.specs.Words.{fmla, narrowed, one as one64, minus_tiny}
 use Rattle.formulas.specs.Radians.{sin_near_in, sin_near, cos_near_in, cos_near}
 use Rattle.formulas.specs.HalfTurns.{pi, minus_pi3_over6, sinpi_near_in, sinpi_near, cospi_near_in, cospi_near, sinpi_y_in, sinpi_y, cospi_y_in, cospi_y}
-use Rattle.formulas.specs.Polynomials.{exactly, SineSeries, CosineSeries, HalfSineSeries, HalfCosineSeries, QuarterSineSeries, QuarterCosineSeries}
+use Rattle.formulas.specs.Polynomials.{SineSeries, CosineSeries, HalfSineSeries, HalfCosineSeries, QuarterSineSeries, QuarterCosineSeries}
 use Rattle.formulas.proofs.Narrowed.{short, Closer, one-closer}
 use Rattle.formulas.proofs.Angles.{half_turns}
 use Rattle.formulas.proofs.Trees.{own, square, mla_e, mul_e, meant, one, sound, against, plainly, middle, two, about_middle}

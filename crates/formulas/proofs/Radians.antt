@@ -2,9 +2,9 @@
 use Rattle.std.proofs.Common.{◌≡◌, ℕ, ◌%◌, ◌^◌, ◌<◌, ◌≤◌, ◌≢◌, ◌⊎◌, sym, ap, ◌∙◌, subst, inl, inr, arith, lit<}
 use native.Mathlib.Decide.{dec_le}
 use lib.Ieee.{Float, binary32, of_bits}
-use Rattle.exact.specs.Fraction.{Fraction, ◌≈◌, ◌⊑◌, ◌⊗◌, neg, whole, frac, Size, leq, size_test}
+use Rattle.exact.specs.Fraction.{Fraction, ◌≈◌, ◌⊑◌, ◌⊗◌, neg, whole, frac, Size, leq}
 use Rattle.exact.specs.Value.{value_of, Good}
-use Rattle.exact.proofs.Order.{by-test, ≈-refl, ≈-sym, ≈-trans, ⊗-cong, neg-⊗, size-⊑, size-⊗, size-by-test}
+use Rattle.exact.proofs.Order.{by-test, ≈-refl, ≈-sym, ≈-trans, ⊗-cong, neg-⊗, size-⊑, size-⊗}
 use Rattle.circle.specs.Series.{sin_series, cos_series}
 use Rattle.circle.specs.Circle.{exact_sine, exact_cosine}
 use Rattle.circle.proofs.Steady.{sin_one, cos_one, sin_cong, cos_cong}

@@ -1,5 +1,5 @@
 -- The tangent by the table, but for odd quarter turns, before narrowing.
-use Rattle.std.proofs.Common.{◌≡◌, ℕ, suc, ◌+◌, ◌-◌, ◌*◌, ◌%◌, ◌^◌, ◌<◌, ◌≤◌, true, false, T, [], ◌∷◌, refl, ap, mul-le-mul_right, mul-pos, le_of_mul-le-mul_right, arith, ltb→lt, lt→ltb}
+use Rattle.std.proofs.Common.{◌≡◌, ℕ, suc, ◌+◌, ◌-◌, ◌*◌, ◌%◌, ◌^◌, ◌<◌, ◌≤◌, true, false, T, [], ◌∷◌, refl, ap, mul-le-mul_right, mul-pos, le_of_mul-le-mul_right, arith, ltb→lt}
 use native.Mathlib.Nat.{le_dest}
 use native.Mathlib.Decide.{dec_le}
 use lib.Count.{count_trailing_zeros}

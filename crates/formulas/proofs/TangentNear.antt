@@ -1,5 +1,5 @@
 -- The polynomials and lines of the tangents, times the series of the cosine, apart that of the sine.
-use Rattle.std.proofs.Common.{◌^◌, T}
+use Rattle.std.proofs.Common.{T}
 use lib.Count.{count_trailing_zeros}
 use lib.Ieee.{Float, binary64, of_bits, of_fields, odd, size, mul}
 use lib.Ieee.Scale.{finite}

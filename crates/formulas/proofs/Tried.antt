@@ -1,12 +1,12 @@
 -- Some values, each by computation.
 use Rattle.std.proofs.Common.{◌≡◌, refl}
 use lib.Count.{count_trailing_zeros}
-use lib.Ieee.{binary32, binary64, of_bits, of_fields, odd, to_bits, size, round, add, sub, mul, div, neg, eq, to_signed}
+use lib.Ieee.{binary64, of_bits, of_fields, odd, to_bits, size, round, add, sub, mul, neg, eq, to_signed}
 use Rattle.std.specs.Float.{float_round, round_with, round_to_format, is_sign_negative, float_with_sign}
 use Rattle.reducers.specs.Reduce.{reduce_pi, reduce_quarter}
 use Rattle.formulas.specs.Words.{on_word}
 use Rattle.formulas.specs.Radians.{sinf, cos_of, cosf}
-use Rattle.formulas.specs.HalfTurns.{sinpi_y, cospi_y, sinpif, cospi_of, cospif, tanpi_by, tanpi_at, tanpif}
+use Rattle.formulas.specs.HalfTurns.{cospi_y, sinpif, cospi_of, cospif, tanpi_at, tanpif}
 use Rattle.formulas.specs.Tried.{Tried}
 
 sinf-minus-zero : on_word sinf 0x80000000 ≡ 0x80000000

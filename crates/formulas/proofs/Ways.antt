@@ -1,6 +1,6 @@
 -- The ways through each definition, by the word.
-use Rattle.std.proofs.Common.{◌≡◌, ℕ, zero, suc, ◌%◌, ◌^◌, ◌<◌, ◌≤◌, Bool, true, false, cond, ◌&&◌, ◌||◌, eqb, ltb, leb, sym, refl, ap, ◌∙◌, le_of_lt, arith, le-ltb, lt-ltb, eq-eqb, ne_eqb, le-leb}
-use lib.Ieee.{Float, nan, inf, binary32, binary64, of_bits, to_bits, mul, neg, eq}
+use Rattle.std.proofs.Common.{◌≡◌, ℕ, ◌%◌, ◌<◌, ◌≤◌, Bool, true, false, cond, ◌&&◌, ◌||◌, eqb, leb, sym, refl, ap, ◌∙◌, arith, le-ltb, lt-ltb, ne_eqb, le-leb}
+use lib.Ieee.{Float, nan, inf, binary32, binary64, of_bits, mul, neg, eq}
 use Rattle.rounding.specs.Bits.{whole_bits, odd_bits}
 use Rattle.reducers.specs.Reduce.{reduce, reduce_pi, reduce_quarter}
 use Rattle.reducers.specs.Exact.{mod_turn}

@@ -1,5 +1,5 @@
 -- The sine, the cosine and the tangent of an f32 in half turns. Definitions only.
-use Rattle.std.specs.Prelude.{ℕ, zero, suc, ◌%◌, Bool, cond, ◌&&◌, ◌||◌, ℤ, ◌==◌, from_bits, nat_le, nat_lt, Float}
+use Rattle.std.specs.Prelude.{ℕ, zero, suc, ◌%◌, cond, ◌&&◌, ◌||◌, ℤ, ◌==◌, from_bits, nat_le, nat_lt, Float}
 use Rattle.std.specs.Float.{nan, inf, binary32, binary64}
 use Rattle.std.specs.Float.Ieee.{mul, neg, eq}
 use Rattle.rounding.specs.Bits.{whole_bits, odd_bits}

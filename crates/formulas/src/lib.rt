@@ -1,4 +1,6 @@
 // What the six functions compute, as definitions in specs/, and what is true of them.
+#![tactic(auto)]
+
 ghost use Rattle.std.specs.Prelude.{◌≡◌};
 ghost use Rattle.formulas.specs.Tried.{Tried};
 ghost use Rattle.formulas.specs.Polynomials.{SineSeries, CosineSeries, TangentSeries, HalfSineSeries, HalfCosineSeries, QuarterSineSeries, QuarterCosineSeries};

@@ -1,5 +1,5 @@
 -- A reduced angle, and its step within a turn.
-use Rattle.std.proofs.Common.{◌≡◌, ℕ, ◌-◌, ◌%◌, ℤ, pos, negsuc, ap, ◌∙◌, arith}
+use Rattle.std.proofs.Common.{◌≡◌, ℕ, ◌%◌, ℤ, pos, negsuc, ap, ◌∙◌, arith}
 use lib.Ieee.{Float}
 use Rattle.reducers.specs.Exact.{mod_turn}
 

@@ -1,3 +1,5 @@
+#![tactic(auto)]
+
 mod cosf;
 mod cospif;
 mod sincosf_eval;

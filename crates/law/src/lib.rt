@@ -1,4 +1,6 @@
 // Two sheets over any two readers, and so over every pile of mounts, after any calls.
+#![tactic(auto)]
+
 ghost use Rattle.std.specs.Prelude.{◌*◌};
 ghost use Rattle.exact.specs.Fraction.{whole, Within};
 ghost use Rattle.exact.specs.Value.{integer};

@@ -1,12 +1,12 @@
 -- Whole steps keep the promise exactly.
-use Rattle.std.specs.Prelude.{ℕ, ◌/◌, ◌%◌, [], ◌∷◌, refl}
+use Rattle.std.specs.Prelude.{ℕ, ◌/◌, ◌%◌, refl}
 use Rattle.std.proofs.Common.{arith}
 use Rattle.std.specs.Int.Count.{count_trailing_zeros}
 use Rattle.std.specs.Float.{binary64}
 use Rattle.std.specs.Float.Ieee.{of_bits, of_fields, odd}
-use Rattle.exact.specs.Fraction.{Fraction, ◌≈◌, ◌⊕◌, ◌⊗◌, whole, frac, tiny, Within, size_test}
+use Rattle.exact.specs.Fraction.{◌≈◌, ◌⊕◌, ◌⊗◌, whole, frac, size_test}
 use Rattle.exact.specs.Value.{value_of, Held}
-use Rattle.exact.proofs.Order.{≈-refl, ≈-sym, ≈-trans, ⊕-cong, ⊕-zero, tiny-pos, size-by-test, within-refl, within-⊑}
+use Rattle.exact.proofs.Order.{≈-refl, ≈-trans, ⊕-cong, ⊕-zero, tiny-pos, size-by-test, within-refl, within-⊑}
 use Rattle.circle.specs.Circle.{turns_on}
 use Rattle.readers.specs.Meaning.{Keeps}
 use Rattle.own_readers.specs.Own.{whole_steps, whole_answer}

@@ -1,4 +1,6 @@
 // Two readers of our own, to show that sheets, mounts, shares and needle serve any reader by its promise alone.
+#![tactic(auto)]
+
 ghost use Rattle.own_readers.specs.Own.{whole_steps, whole_answer};
 ghost use Rattle.readers.specs.declared.reader.ReaderFault.TheVariants.{NoAngle};
 ghost use Rattle.std.specs.Prelude.{None, Err};

@@ -1,5 +1,5 @@
 -- The editions' readers keep their promise.
-use Rattle.std.specs.Prelude.{◌≡◌, ℕ, ◌%◌, ◌<◌, ◌≤◌, Bool, true, false, cond, ◌≢◌, ℤ, Some, None, Ok, Err, ◌==◌, from_bits, nat_lt, refl, Float}
+use Rattle.std.specs.Prelude.{◌≡◌, ℕ, ◌%◌, ◌<◌, Bool, true, false, cond, Some, None, Ok, Err, ◌==◌, from_bits, nat_lt, refl, Float}
 use Rattle.std.proofs.Common.{arith}
 use Rattle.std.specs.Float.{binary32, binary64}
 use Rattle.std.proofs.lemmas.Bool.{eqb-false, ltb-true, ltb-false}
@@ -8,11 +8,11 @@ use Rattle.exact.specs.Value.{value_of, Held}
 use Rattle.exact.proofs.Order.{by-test, within-⊑}
 use Rattle.circle.specs.Circle.{Alike}
 use Rattle.reducers.specs.Reduce.{reduce, reduce_pi}
-use Rattle.reducers.specs.Exact.{field, radian_steps, mod_turn}
+use Rattle.reducers.specs.Exact.{field, radian_steps}
 use Rattle.reducers.proofs.Turns.{mod_turn-lt}
 use Rattle.reducers.proofs.Reading.{radian-reads, half-turns-read, whole-turns-read}
 use Rattle.readers.specs.declared.reader.ReaderFault.TheVariants.{NoAngle}
-use Rattle.readers.specs.Meaning.{Steps, Reading, Answers, Keeps}
+use Rattle.readers.specs.Meaning.{Reading, Answers, Keeps}
 use Rattle.readers.specs.Editions.{turned, radian_meaning, radian_answer, half_turn_meaning, half_turn_answer}
 
 enough : whole 1024 ⊗ tiny 60 ⊑ tiny 50

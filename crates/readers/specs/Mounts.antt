@@ -1,15 +1,15 @@
 -- Mounts keep the promise of the reader below them.
-use Rattle.std.specs.Prelude.{◌≡◌, ℕ, ◌+◌, ◌-◌, ◌*◌, ◌/◌, ◌%◌, ◌<◌, ◌≤◌, [], ◌∷◌, Some, None, Ok, Err, refl, Float}
+use Rattle.std.specs.Prelude.{◌≡◌, ℕ, ◌+◌, ◌-◌, ◌*◌, ◌/◌, ◌%◌, ◌<◌, [], ◌∷◌, Some, None, Ok, Err, Float}
 use Rattle.std.proofs.Common.{arith}
 use Rattle.std.specs.Float.Ieee.{neg as negate}
-use Rattle.exact.specs.Fraction.{Fraction, ◌≈◌, ◌⊕◌, ◌⊗◌, neg, whole, frac, tiny, Within}
+use Rattle.exact.specs.Fraction.{Fraction, ◌≈◌, ◌⊕◌, ◌⊗◌, neg, whole, tiny, Within}
 use Rattle.exact.specs.Value.{value_of, Held}
 use Rattle.exact.proofs.Order.{≈-refl, ≈-sym, ≈-trans, ≈→⊑, ⊕-cong, ⊕-zero, ⊗-cong, size-≈, size-neg, within-⊕, within-⊑, within-neg, within-refl, within-≈}
-use Rattle.exact.proofs.Poly.{var, con, ◌:+◌, ◌:*◌, ◌:-◌, minus, free, same}
+use Rattle.exact.proofs.Poly.{var, con, ◌:+◌, ◌:*◌, minus, free, same}
 use Rattle.exact.proofs.Cert.{ring}
 use Rattle.exact.proofs.Rounding.{finite-neg, value-neg}
 use Rattle.circle.specs.Circle.{Alike, turns_on}
-use Rattle.readers.specs.Meaning.{Steps, Reading, Answers, Keeps, turned_steps, turned_answer, mirrored_steps, mirrored_answer}
+use Rattle.readers.specs.Meaning.{Steps, Reading, Keeps, turned_steps, turned_answer, mirrored_steps, mirrored_answer}
 
 -- the same number on both sides
 both : {a b c : Fraction} (d : Fraction) → Within a b c → Within (a ⊕ d) (b ⊕ d) c

@@ -1,3 +1,5 @@
+#![tactic(auto)]
+
 pub mod edition;
 pub mod mount;
 pub mod reader;

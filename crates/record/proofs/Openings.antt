@@ -1,12 +1,12 @@
 -- What stands before the rows, and what the rows come to.
-use Rattle.std.proofs.Common.{◌≡◌, ℕ, zero, suc, ◌-◌, ◌<◌, ◌≤◌, List, [], ◌∷◌, map, length, ℤ, pos, ◌*ℤ◌, Some, None, Ok, Err, Option, Result, sym, refl, ap, ◌∙◌, subst, arith}
+use Rattle.std.proofs.Common.{◌≡◌, ℕ, suc, ◌-◌, ◌<◌, ◌≤◌, List, [], ◌∷◌, map, length, ℤ, pos, ◌*ℤ◌, Some, None, Ok, Err, Option, Result, sym, refl, ap, ◌∙◌, subst, arith}
 use native.Mathlib.Nat.{sub_self}
 use Rattle.std.proofs.lemmas.List.{length-map}
 use Rattle.readers.specs.Meaning.{Steps, Reading}
 use Rattle.sheets.specs.declared.book.Entry.{Entry}
 use Rattle.sheets.specs.declared.row.Row.{Row}
 use Rattle.sheets.specs.Rows.{speed_of, along_of, across_of}
-use Rattle.sheets.specs.Runs.{filled, Grown}
+use Rattle.sheets.specs.Runs.{filled}
 use Rattle.sheets.proofs.Sums.{length-order, sum_by-order, folded-order}
 use Rattle.record.specs.declared.edition.Edition.{Edition}
 use Rattle.record.specs.declared.edition.Mount.{Mount}
@@ -19,7 +19,7 @@ use Rattle.record.specs.declared.state.State.TheVariants as state
 use Rattle.record.specs.declared.tally.Tally.{Tally}
 use Rattle.record.specs.Fields.{and_then, Read, field_at}
 use Rattle.record.specs.Record.{Field, saying, following, fields, fields_of, replay, first_mount, said_mount, edition_of, mount_of, steps_under, answer_under, edition_steps, edition_answer, tally_of, tallied, record_tally}
-use Rattle.record.specs.Reached.{Follows, Allowed, Continues, Opens}
+use Rattle.record.specs.Reached.{Follows, Allowed, Opens}
 use Rattle.record.proofs.Fields.{field-shorter, field-allowed, first-edition}
 use Rattle.record.proofs.Replay.{fields-first, fields-none}
 

@@ -5,18 +5,17 @@ use Rattle.sheets.specs.declared.book.Call.{Call}
 use Rattle.sheets.specs.declared.book.Entry.{Entry}
 use Rattle.sheets.specs.declared.fault.SheetFault.{SheetFault}
 use Rattle.sheets.specs.declared.row.Row.{Row}
-use Rattle.sheets.specs.Book.{asked, given, written}
+use Rattle.sheets.specs.Book.{asked, written}
 use Rattle.sheets.specs.Rows.{samples}
 use Rattle.sheets.specs.Runs.{Grown}
 use Rattle.sheets.proofs.Runs.{asked-alike, samples-order}
 use Rattle.record.specs.declared.fault.Cause.{Cause}
 use Rattle.record.specs.declared.fault.RecordFault.{RecordFault}
-use Rattle.record.specs.declared.item.Item.{Item}
 use Rattle.record.specs.declared.item.Item.TheVariants.{Put}
 use Rattle.record.specs.declared.state.State.{State}
 use Rattle.record.specs.Refusals.{located}
 use Rattle.record.specs.Fields.{and_then, Read, field_at}
-use Rattle.record.specs.Record.{Field, saying, following, fields, lifted, put, made, replay}
+use Rattle.record.specs.Record.{saying, following, fields, lifted, put, made, replay}
 use Rattle.record.specs.Reached.{Reached, Follows}
 use Rattle.record.proofs.Fields.{field-shorter}
 

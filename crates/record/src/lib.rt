@@ -1,3 +1,5 @@
+#![tactic(auto)]
+
 pub mod edition;
 pub mod fault;
 pub mod field;

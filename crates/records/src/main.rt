@@ -1,4 +1,6 @@
 // For the bench: a record in hex digits on each line of standard input, and for each its report or the line of its refusal.
+#![tactic(auto)]
+
 use record::fault::RecordFault;
 use record::report::{refusal_line, report};
 use std::alloc::{AllocError, Global};

@@ -1,6 +1,6 @@
 -- The errors of the chain of operations, over fractions alone.
 use Rattle.std.proofs.Common.{[], ◌∷◌}
-use Rattle.exact.specs.Fraction.{Fraction, ◌≈◌, ◌⊕◌, ◌⊗◌, ◌⊖◌, neg, whole, Size, Within}
+use Rattle.exact.specs.Fraction.{Fraction, ◌≈◌, ◌⊕◌, ◌⊗◌, ◌⊖◌, neg, Size, Within}
 use Rattle.exact.proofs.Order.{within-left, ≈-sym, ≈-refl, ≈-trans, ⊕-cong, ⊗-comm, within-≈, within-mul-right, triangle, ⊕-comm}
 use Rattle.exact.proofs.Poly.{var, ◌:+◌, ◌:*◌, ◌:-◌, same, free}
 use Rattle.exact.proofs.Cert.{ring}

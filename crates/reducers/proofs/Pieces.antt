@@ -1,7 +1,7 @@
 -- The constants: what each is, and their sums against 32 * 2 ^ 256 / big_pi, by computation.
-use Rattle.std.proofs.Common.{ℕ, ◌+◌, ◌*◌, ◌^◌, T, refl, lit≤, pow_pos}
+use Rattle.std.proofs.Common.{ℕ, ◌+◌, ◌*◌, ◌^◌, refl, lit≤, pow_pos}
 use lib.Count.{count_trailing_zeros}
-use lib.Ieee.{Float, of_bits, of_fields, odd, size}
+use lib.Ieee.{of_bits, of_fields, odd, size}
 use Rattle.exact.specs.Fraction.{Fraction, ◌⊕◌, ◌⊗◌, whole, Within, tiny, frac, size_test, within_test}
 use Rattle.exact.specs.Value.{value_of}
 use Rattle.exact.specs.Multiple.{pw, Multiple, OddMultiple}

@@ -1,10 +1,9 @@
 -- The reducers' answers as the step within a turn and the rest: what a reader of angles wants.
-use Rattle.std.proofs.Common.{ℕ, ◌+◌, ◌-◌, ◌%◌, ◌^◌, ◌<◌, ◌≤◌, T, ◌≢◌, ℤ, pos, refl, arith}
+use Rattle.std.proofs.Common.{ℕ, ◌+◌, ◌-◌, ◌%◌, ◌<◌, ◌≤◌, ◌≢◌, ℤ, pos, refl, arith}
 use lib.Count.{count_trailing_zeros}
 use lib.Ieee.{Float, binary32, binary64, of_bits, of_fields, odd}
 use lib.Ieee.Bits.{of_bits-fits}
 use lib.Ieee.Fits.{fits_widens}
-use lib.Ieee.Scale.{finite}
 use Rattle.exact.specs.Fraction.{Fraction, ◌≈◌, ◌⊑◌, ◌⊕◌, ◌⊗◌, whole, frac, tiny, Size, leq, size_test}
 use Rattle.exact.specs.Value.{value_of, integer, Held}
 use Rattle.exact.specs.Multiple.{pw}

@@ -1,5 +1,5 @@
 -- The constants that are skipped: each product with the float is a multiple of 64.
-use Rattle.std.proofs.Common.{◌≡◌, ℕ, zero, suc, ◌+◌, ◌-◌, ◌%◌, ◌<◌, ◌≤◌, Bool, true, false, cond, not, T, leb, pos, ◌-ℤ◌, refl, ap, ◌∙◌, subst, not-suc-le-zero, arith, leb→le}
+use Rattle.std.proofs.Common.{◌≡◌, ℕ, zero, suc, ◌+◌, ◌-◌, ◌%◌, ◌<◌, ◌≤◌, Bool, true, false, cond, not, T, leb, pos, ◌-ℤ◌, refl, ap, ◌∙◌, subst, not-suc-le-zero, arith}
 use lib.Dec.{nleb→lt}
 use lib.Count.{count_trailing_zeros}
 use lib.Ieee.{Float, binary32, of_bits, of_fields, odd, size}

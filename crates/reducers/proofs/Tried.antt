@@ -1,6 +1,6 @@
 -- The definition computed at some words: the same patterns and counts as f64 arithmetic gives elsewhere.
 use Rattle.std.proofs.Common.{◌≡◌, ℕ, ◌%◌, ℤ, pos, negsuc, refl}
-use lib.Ieee.{Float, binary32, binary64, of_bits, to_bits, add, sub, mul, to_signed}
+use lib.Ieee.{binary32, binary64, of_bits, to_bits, add, sub, mul, to_signed}
 use Rattle.std.specs.Float.{round_with}
 use Rattle.reducers.specs.Reduce.{reduce, reduce_small, reduce_from}
 

@@ -1,9 +1,9 @@
 -- The two reducers as they compute, operation by operation, each rounded once. Definitions only.
-use Rattle.std.specs.Prelude.{ℕ, zero, suc, ◌+◌, ◌*◌, ◌/◌, ◌%◌, ◌^◌, Bool, cond, List, [], ◌∷◌, take, ℤ, pos, negsuc, ◌+ℤ◌, ◌-ℤ◌, from_bits, int_lt, nat_lt, slice_index, Float}
+use Rattle.std.specs.Prelude.{ℕ, suc, ◌+◌, ◌/◌, ◌%◌, ◌^◌, Bool, cond, List, [], ◌∷◌, take, ℤ, pos, negsuc, ◌+ℤ◌, ◌-ℤ◌, from_bits, int_lt, nat_lt, slice_index, Float}
 use Rattle.std.specs.Float.Ieee.{add, sub, mul, neg, to_signed}
 use Rattle.std.specs.Int.{w64}
 use Rattle.std.proofs.Common.{of_z, to_z}
-use Rattle.std.specs.Float.{float_round, Format, binary64}
+use Rattle.std.specs.Float.{float_round, binary64}
 
 -- 32/π in eight parts: the patterns of the f64 values
 abbrev pub patterns : List ℕ

@@ -1,3 +1,5 @@
+#![tactic(auto)]
+
 ghost use Rattle.std.specs.Prelude.{◌≡◌, ℕ, ◌%◌, ◌<◌, ◌≤◌, pos, ◌≢◌, from_bits, slice_index_or};
 ghost use Rattle.std.specs.Float.{binary32};
 ghost use Rattle.reducers.specs.Exact.{field, mod_turn, Reduced, PartsAreRight, LowestBits, LowestDigits, SkippedAreWholeTurns};

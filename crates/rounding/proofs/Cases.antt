@@ -1,5 +1,5 @@
 -- The ways through the rounding of a pattern, as the code takes them.
-use Rattle.std.proofs.Common.{◌≡◌, ℕ, suc, ◌+◌, ◌-◌, ◌*◌, ◌/◌, ◌%◌, ◌^◌, ◌<◌, ◌≤◌, Bool, true, false, cond, ltb, sym, refl, ap, ◌∙◌, subst, le_trans, lt_of_le_of_lt, mod-eq_of_lt, one-mul, div-mul-le_self, arith, lit<, pow_mono, le-ltb, lt-ltb}
+use Rattle.std.proofs.Common.{◌≡◌, ℕ, suc, ◌+◌, ◌-◌, ◌*◌, ◌/◌, ◌%◌, ◌^◌, ◌<◌, ◌≤◌, Bool, true, false, cond, ltb, sym, ap, ◌∙◌, subst, lt_of_le_of_lt, mod-eq_of_lt, one-mul, div-mul-le_self, arith, lit<, pow_mono, le-ltb, lt-ltb}
 use lib.Ieee.{Format, binary32, binary64, prec, emax, low, hid, top}
 use Rattle.rounding.specs.Round.{exponent_field, sign_bit, cut_at, round_bits}
 

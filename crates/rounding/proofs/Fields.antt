@@ -1,5 +1,5 @@
 -- A pattern by its fields: what it is worth, and how its parts move.
-use Rattle.std.proofs.Common.{◌≡◌, ℕ, zero, suc, ◌+◌, ◌-◌, ◌*◌, ◌/◌, ◌%◌, ◌^◌, ◌<◌, ◌≤◌, Bool, true, false, cond, not, T, eqb, leb, sym, refl, ap, ◌∙◌, subst, not-suc-le-zero, lt_irrefl, arith, le→leb, eqb→eq, leb→le}
+use Rattle.std.proofs.Common.{◌≡◌, ℕ, zero, suc, ◌+◌, ◌-◌, ◌*◌, ◌/◌, ◌%◌, ◌^◌, ◌<◌, ◌≤◌, Bool, true, false, cond, not, T, eqb, leb, ap, ◌∙◌, subst, not-suc-le-zero, lt_irrefl, arith, le→leb, eqb→eq, leb→le}
 use lib.Dec.{nleb→lt}
 use lib.Ieee.{Float, Format, binary32, binary64, nan, inf, fin, prec, emax, low, hid, ones, top, of_bits, of_fields, odd}
 use lib.Ieee.Exact.{HasValue, odd_sign}

@@ -22,7 +22,7 @@ use Rattle.table.proofs.Text.{sine-near, cosine-near}
 use Rattle.readers.specs.Meaning.{Steps, Reading, Answers, Keeps}
 use Rattle.shares.specs.Needle.{needle_of, Points}
 use Rattle.table.specs.Sines.{sine64, cosine64}
-use Rattle.shares.specs.Share.{sine32, cosine32, share_of, Read, sine_share, cosine_share, ShareNear, NeedleNear}
+use Rattle.shares.specs.Share.{sine32, cosine32, share_of, Read, ShareNear, NeedleNear}
 
 -- ---- from k + y to u
 -- what the reader's error costs

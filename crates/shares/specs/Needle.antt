@@ -1,5 +1,5 @@
 -- What the needle answers, and how near it points. Definitions only.
-use Rattle.std.specs.Prelude.{ℕ, ◌%◌, Some, None, Ok, Err, Result, Float}
+use Rattle.std.specs.Prelude.{◌%◌, Some, None, Ok, Err, Result, Float}
 use Rattle.exact.specs.Fraction.{tiny}
 use Rattle.exact.specs.Value.{Good}
 use Rattle.circle.specs.Circle.{exact_sine, exact_cosine}

@@ -1,4 +1,6 @@
 // Reads a record on standard input and prints its report, or the line of its refusal.
+#![tactic(auto)]
+
 use record::fault::RecordFault;
 use record::report::{refusal_line, report};
 use std::io;

@@ -1,6 +1,6 @@
 -- Samples that stand in a list, and lists without repeats.
-use Rattle.std.proofs.Common.{◌≡◌, ℕ, zero, suc, ◌+◌, ◌<◌, ◌≤◌, Bool, true, false, not, ◌&&◌, ◌||◌, eqb, List, [], ◌∷◌, ◌++◌, length, get_or, sym, refl, ap, ◌∙◌, arith}
-use Rattle.std.proofs.lemmas.Bool.{eqb-true, eqb-false, eq-eqb, ne_eqb, or_from, or_left, or_right, or_parts, and_parts, and_from, not-true, not_from_false}
+use Rattle.std.proofs.Common.{◌≡◌, ℕ, zero, suc, ◌<◌, true, false, not, eqb, List, [], ◌∷◌, ◌++◌, length, get_or, sym, refl, arith}
+use Rattle.std.proofs.lemmas.Bool.{eqb-false, eq-eqb, ne_eqb, or_from, or_left, or_right, or_parts, and_parts, and_from, not-true, not_from_false}
 use Rattle.sheets.specs.Rows.{among, distinct}
 
 pub absent-among : (s : ℕ) (ss : List ℕ) → ((k : ℕ) → k < length ss → get_or ss k 0 ≡ s → ⊥) → among s ss ≡ false

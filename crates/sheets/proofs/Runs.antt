@@ -14,7 +14,7 @@ use Rattle.sheets.specs.declared.book.Call.{Call}
 use Rattle.sheets.specs.declared.book.Call.TheVariants.{Enter, Correct, Withdraw, RowOf, RowAt, Count, Totals}
 use Rattle.sheets.specs.Rows.{samples, among}
 use Rattle.sheets.specs.Book.{may_enter, may_correct, may_withdraw, may_place, asked, allowed, given}
-use Rattle.sheets.specs.Sheets.{InAnyOrder, row_for, corrected, without}
+use Rattle.sheets.specs.Sheets.{InAnyOrder, corrected, without}
 use Rattle.sheets.specs.Runs.{filled, Grown}
 use Rattle.sheets.proofs.Orders.{kept-by-order, among-order}
 use Rattle.sheets.proofs.Sums.{length-order}

@@ -1,5 +1,5 @@
 -- Reading hex digits one by one.
-use Rattle.std.proofs.Common.{◌≡◌, ℕ, suc, ◌+◌, ◌-◌, ◌*◌, ◌^◌, ◌<◌, ◌≤◌, Bool, true, false, cond, ◌&&◌, T, leb, List, ◌∷◌, length, get_or, drop, Some, None, Option, sym, ap, ◌∙◌, subst, le_trans, lt_of_lt_of_le, pow-suc, add-one, arith, leb→le, drop-cons}
+use Rattle.std.proofs.Common.{◌≡◌, ℕ, suc, ◌+◌, ◌-◌, ◌*◌, ◌^◌, ◌<◌, ◌≤◌, Bool, true, false, cond, ◌&&◌, T, leb, List, length, get_or, drop, Some, None, Option, sym, ap, ◌∙◌, subst, lt_of_lt_of_le, pow-suc, add-one, arith, leb→le, drop-cons}
 use lib.Seq.{drop-length}
 use lib.Ieee.Fits.{and_r}
 use Rattle.sines.specs.Reading.{digit_of, digit_then, word_of}

@@ -1,3 +1,5 @@
+#![tactic(auto)]
+
 mod request;
 
 use request::Request;

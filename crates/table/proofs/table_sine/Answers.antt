@@ -1,6 +1,6 @@
 use mathlib.Core.Path.{refl}
 use native.Mathlib.Omega.{arith}
-use Prim.Native.Nat.{◌<◌, ◌%◌}
+use Prim.Native.Nat.{◌%◌}
 use Rattle.table.specs.Sines.{sin_table, table_sine}
 use Rattle.table.proofs.Table.{no_nan, table-sine, good}
 use Rattle.table.proofs.table_sine.Goals as goal

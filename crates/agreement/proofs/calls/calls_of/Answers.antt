@@ -1,4 +1,4 @@
-use Rattle.std.proofs.Common.{◌≡◌, ℕ, ◌<◌, List, ◌++◌, length, ap, ◌∙◌, arith, rules}
+use Rattle.std.proofs.Common.{◌≡◌, ◌<◌, ◌++◌, length, ap, arith, rules}
 use Rattle.record.specs.Record.{fields_of}
 use Rattle.record.specs.Outcome.{calls_in}
 use Rattle.record.proofs.Fields.{field-shorter}

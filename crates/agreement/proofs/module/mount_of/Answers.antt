@@ -1,4 +1,4 @@
-use Rattle.std.proofs.Common.{◌≤◌, arith}
+use Rattle.std.proofs.Common.{arith}
 use Rattle.agreement.proofs.Modules.{first-refused, first_says, allowed-said}
 use Rattle.agreement.proofs.module.mount_of.Goals as goal
 

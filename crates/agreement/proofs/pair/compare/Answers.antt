@@ -1,4 +1,4 @@
-use Rattle.std.proofs.Common.{◌≡◌, ℕ, List, Option, sym, ap, ◌∙◌, subst}
+use Rattle.std.proofs.Common.{◌≡◌, ℕ, List, Option, ◌∙◌, subst}
 use Rattle.readers.specs.Meaning.{Steps}
 use Rattle.sheets.specs.declared.book.Call.{Call}
 use Rattle.sheets.specs.declared.totals.Totals.{Totals}

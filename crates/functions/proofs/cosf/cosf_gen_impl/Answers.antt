@@ -1,5 +1,5 @@
-use Rattle.std.proofs.Common.{◌≡◌, sym, ap, ◌∙◌, arith}
-use lib.Ieee.{nan_bits, binary32, of_bits, of_fields}
+use Rattle.std.proofs.Common.{sym, ap, ◌∙◌, arith}
+use lib.Ieee.{nan_bits, of_bits, of_fields}
 use Rattle.reducers.specs.Reduce.{reduce}
 use Rattle.formulas.specs.Words.{fmla, narrowed, minus_tiny, one, cosine_at}
 use Rattle.formulas.specs.Radians.{cos_near, cos_of}

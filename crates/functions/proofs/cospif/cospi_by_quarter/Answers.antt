@@ -1,5 +1,4 @@
-use Rattle.std.proofs.Common.{◌≡◌, ◌%◌, ap, ◌∙◌, arith, rules}
-use lib.Ieee.{neg}
+use Rattle.std.proofs.Common.{◌≡◌, ◌%◌, ◌∙◌, arith, rules}
 use Rattle.reducers.specs.Exact.{mod_turn}
 use Rattle.formulas.specs.HalfTurns.{cosine_by}
 use Rattle.formulas.proofs.Ways.{cosine-last, quarter-at}

@@ -1,4 +1,4 @@
-use Rattle.std.proofs.Common.{◌≡◌, ◌<◌, true, false, cond, sym, ap, ◌∙◌, arith, le-leb}
+use Rattle.std.proofs.Common.{◌<◌, cond, sym, ap, ◌∙◌, arith, le-leb}
 use lib.Ieee.{binary64, neg, inf, eq, of_bits, of_fields}
 use Rattle.formulas.specs.Words.{zero_of}
 use borrow.Author.Tests.{lt-leb, both_ways}

@@ -1,4 +1,4 @@
-use Rattle.std.proofs.Common.{◌≡◌, sym, ap, ◌∙◌, mod-eq_of_lt, arith}
+use Rattle.std.proofs.Common.{sym, ap, ◌∙◌, mod-eq_of_lt, arith}
 use lib.Ieee.{nan_bits, binary64, mul}
 use Rattle.table.specs.Tangents.{tangent_of, table_tangent, tan_of_y}
 use Rattle.formulas.specs.Words.{fmla, narrowed}

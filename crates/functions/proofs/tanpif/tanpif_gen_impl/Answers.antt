@@ -1,4 +1,4 @@
-use Rattle.std.proofs.Common.{◌≡◌, ◌<◌, sym, ap, ◌∙◌, arith, rules}
+use Rattle.std.proofs.Common.{◌≡◌, sym, ap, ◌∙◌, arith, rules}
 use lib.Ieee.{of_bits, of_fields}
 use Rattle.reducers.specs.Reduce.{reduce_pi}
 use Rattle.reducers.specs.Exact.{mod_turn}

@@ -1,4 +1,4 @@
-use Rattle.std.proofs.Common.{◌≡◌, ℕ, List, None, Ok, Err, Option, sym, refl, subst}
+use Rattle.std.proofs.Common.{◌≡◌, ℕ, List, None, Err, Option, sym, refl, subst}
 use Rattle.record.specs.declared.edition.Mount.{Mount}
 use Rattle.record.specs.declared.state.State.{State}
 use Rattle.record.specs.declared.state.State.TheVariants as state

@@ -1,8 +1,7 @@
-use Rattle.std.proofs.Common.{◌≡◌, ℕ, [], Ok, ap, ◌∙◌, subst}
+use Rattle.std.proofs.Common.{ℕ, [], Ok, ap, ◌∙◌}
 use Rattle.readers.specs.Meaning.{turned_steps, turned_answer}
 use Rattle.record.specs.Fields.{and_then}
 use Rattle.record.specs.Record.{fields, replay, tally_of}
-use Rattle.record.proofs.reading.tally_turned.Given as given
 use Rattle.record.proofs.reading.tally_turned.Goals as goal
 
 pub returns : goal.returns

@@ -1,4 +1,4 @@
-use Rattle.std.proofs.Common.{◌≡◌, ℕ, Bool, List, [], Ok, Option, Result, sym, ap, ◌∙◌}
+use Rattle.std.proofs.Common.{ℕ, Bool, List, [], Ok, Option, Result, sym, ap, ◌∙◌}
 use Rattle.readers.specs.Meaning.{Steps, Reading, turned_steps, turned_answer}
 use Rattle.record.specs.declared.edition.Edition.{Edition}
 use Rattle.record.specs.declared.edition.Mount.{Mount}

@@ -1,4 +1,4 @@
-use Rattle.std.proofs.Common.{◌+◌, length, decimal, arith}
+use Rattle.std.proofs.Common.{decimal, arith}
 use Rattle.record.proofs.Pages.{length-line, put_as_line}
 use Rattle.record.proofs.text.put_line.Goals as goal
 

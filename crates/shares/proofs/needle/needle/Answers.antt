@@ -1,8 +1,6 @@
 use Rattle.std.proofs.Common.{◌≡◌, ℕ, ◌^◌, ◌<◌, Ok, Err, sym, ap, ◌∙◌, subst, arith}
 use lib.Ieee.{Float}
 use Rattle.std.proofs.lemmas.Result.{err_from_is_err_and}
-use Rattle.readers.specs.Meaning.{Reading, Keeps}
-use Rattle.shares.specs.Share.{sine32, cosine32}
 use Rattle.shares.specs.Needle.{needle_of, Points}
 use Rattle.shares.proofs.Limits.{points}
 use Rattle.shares.proofs.needle.needle.Given as given

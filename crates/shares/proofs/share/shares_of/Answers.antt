@@ -1,4 +1,4 @@
-use Rattle.std.proofs.Common.{◌%◌, sym, ap, ◌∙◌, arith, to_z-of_z}
+use Rattle.std.proofs.Common.{◌%◌, ap, ◌∙◌, arith, to_z-of_z}
 use Rattle.shares.specs.Share.{share_of, sine_share, cosine_share}
 use Rattle.shares.proofs.Limits.{share-sine, share-cosine}
 use Rattle.shares.proofs.share.shares_of.Goals as goal

@@ -1,4 +1,4 @@
-use Rattle.std.proofs.Common.{◌≡◌, pos, ◌*ℤ◌, refl, arith, w64, SFits}
+use Rattle.std.proofs.Common.{pos, ◌*ℤ◌, refl, arith, w64, SFits}
 use Rattle.std.proofs.lemmas.Int.{to_z-of_z}
 use Rattle.sheets.proofs.Ints.{part-size, small-fits, shares-back}
 use Rattle.sheets.proofs.row_table.part.Goals as goal

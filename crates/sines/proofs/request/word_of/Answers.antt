@@ -1,5 +1,5 @@
-use Rattle.std.proofs.Common.{◌≡◌, ◌+◌, ◌*◌, ◌^◌, ◌<◌, ◌≤◌, length, get_or, drop, Some, None, sym, ◌∙◌, subst, le_of_eq, arith, rules}
-use Rattle.sines.specs.Reading.{digit_of, word_of}
+use Rattle.std.proofs.Common.{◌≡◌, ◌+◌, ◌*◌, ◌^◌, ◌<◌, ◌≤◌, length, get_or, Some, sym, ◌∙◌, le_of_eq, arith, rules}
+use Rattle.sines.specs.Reading.{digit_of}
 use Rattle.sines.proofs.Digits.{stops, small, goes_on, word_fits, ends}
 use Rattle.sines.proofs.request.word_of.Goals as goal
 

@@ -1,6 +1,6 @@
 use mathlib.Core.Path.{refl}
 use native.Mathlib.Omega.{arith}
-use Prim.Native.Nat.{◌<◌, ◌%◌}
+use Prim.Native.Nat.{◌%◌}
 use Rattle.table.specs.Tangents.{tan_table, table_tangent}
 use Rattle.table.proofs.Tangents.{tan_no_nan, table_tangent_lem}
 use Rattle.table.proofs.tangent.table_tangent.Goals as goal

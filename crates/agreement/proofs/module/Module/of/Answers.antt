@@ -1,4 +1,3 @@
-use Rattle.std.proofs.Common.{◌≡◌}
 use Rattle.record.proofs.Fields.{first-edition}
 use Rattle.agreement.proofs.Modules.{none_said, both-said}
 use Rattle.agreement.proofs.module.Module.of.Goals as goal

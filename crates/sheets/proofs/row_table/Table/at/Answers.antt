@@ -1,6 +1,5 @@
-use Rattle.std.proofs.Common.{◌≡◌, ℕ, ◌+◌, ◌-◌, ◌<◌, ◌≤◌, length, get_or, take, set, sym, refl, ap, ◌∙◌, arith, rules}
-use Rattle.std.proofs.lemmas.List.{take_more_set}
-use Rattle.sheets.proofs.Tables.{take-of-set, at-standing, moved-last}
+use Rattle.std.proofs.Common.{arith, rules}
+use Rattle.sheets.proofs.Tables.{at-standing}
 use Rattle.sheets.proofs.row_table.Table.at.Goals as goal
 
 pub returns : goal.returns

@@ -1,9 +1,9 @@
-use Rattle.std.proofs.Common.{◌≡◌, ℕ, ◌<◌, false, List, length, get_or, pos, sym, refl, ap, ◌∙◌, subst, arith, rules, below_more}
+use Rattle.std.proofs.Common.{◌≡◌, ℕ, ◌<◌, false, List, length, get_or, pos, sym, ◌∙◌, subst, arith, below_more}
 use Rattle.std.proofs.lemmas.List.{get_or-map, length-map}
 use Rattle.sheets.specs.declared.row.Row.{Row}
 use Rattle.sheets.specs.Rows.{samples, among}
 use Rattle.sheets.proofs.Bools.{absent-among}
-use Rattle.sheets.specs.Standing.{standing, Found}
+use Rattle.sheets.specs.Standing.{Found}
 use Rattle.sheets.proofs.row_table.Table.place.Goals as goal
 
 sample_at : (rows : List Row) (i : ℕ) (d : Row) → i < length rows → get_or (samples rows) i 0 ≡ (get_or rows i d).sample

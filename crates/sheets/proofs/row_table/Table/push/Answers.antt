@@ -1,6 +1,5 @@
-use Rattle.std.proofs.Common.{◌≡◌, ℕ, ◌+◌, ◌-◌, ◌<◌, ◌≤◌, length, get_or, take, set, sym, refl, ap, ◌∙◌, arith, rules}
+use Rattle.std.proofs.Common.{◌<◌, length, ◌∙◌, rules}
 use Rattle.std.proofs.lemmas.List.{take_more_set}
-use Rattle.sheets.proofs.Tables.{take-of-set, at-standing, moved-last}
 use Rattle.sheets.proofs.row_table.Table.push.Goals as goal
 
 pub returns : goal.returns

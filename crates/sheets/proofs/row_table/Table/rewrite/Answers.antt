@@ -1,9 +1,8 @@
-use Rattle.std.proofs.Common.{◌≡◌, ℕ, ◌+◌, ◌-◌, ◌<◌, ◌≤◌, List, length, get_or, take, set, pos, sym, refl, ap, ◌∙◌, arith, w32, SFits, rules}
-use Rattle.std.proofs.lemmas.List.{take_more_set}
+use Rattle.std.proofs.Common.{◌≡◌, ℕ, List, get_or, take, set, pos, ap, ◌∙◌, arith, w32, SFits, rules}
 use Rattle.std.proofs.lemmas.Int.{to_z-of_z}
 use Rattle.sheets.specs.declared.row.Row.{Row}
 use Rattle.sheets.specs.Rewrite.{rewritten}
-use Rattle.sheets.proofs.Tables.{take-of-set, at-standing, moved-last}
+use Rattle.sheets.proofs.Tables.{take-of-set, at-standing}
 use Rattle.sheets.proofs.row_table.Table.rewrite.Goals as goal
 
 abbrev none : Row

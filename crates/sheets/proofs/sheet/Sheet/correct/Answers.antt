@@ -1,13 +1,10 @@
-use Rattle.std.proofs.Common.{◌≡◌, ℕ, ◌^◌, ◌<◌, ◌≤◌, true, false, List, [], ◌∷◌, ◌++◌, length, get_or, set, ℤ, pos, Some, Ok, sym, refl, ap, ◌∙◌, subst, arith, rules}
-use Rattle.std.proofs.lemmas.List.{length-map, length-take, get_or-map}
+use Rattle.std.proofs.Common.{pos, refl, ap, ◌∙◌, arith, rules}
+use Rattle.std.proofs.lemmas.List.{length-take}
 use Rattle.sheets.specs.declared.row.Row.{Row}
-use Rattle.sheets.specs.Rows.{samples, among, distinct}
-use Rattle.sheets.specs.Standing.{standing, Found, removed}
-use Rattle.sheets.specs.Sheets.{corrected, InAnyOrder}
-use Rattle.sheets.specs.Rewrite.{rewritten}
-use Rattle.sheets.proofs.Sheets.{has-angle, there, correct_ok, withdraw_ok, withdraw_absent, row_made, passed}
-use Rattle.sheets.proofs.Orders.{withdrawn-order, withdrawn-distinct, corrected-at, corrected-samples, rewrite-corrected, rewrite-distinct}
-use Rattle.shares.specs.Share.{sine_share, cosine_share}
+use Rattle.sheets.specs.Rows.{samples, distinct}
+use Rattle.sheets.specs.Standing.{standing}
+use Rattle.sheets.proofs.Sheets.{has-angle, there, correct_ok, row_made, passed}
+use Rattle.sheets.proofs.Orders.{rewrite-corrected, rewrite-distinct}
 use Rattle.sheets.proofs.sheet.Sheet.correct.Goals as goal
 
 abbrev none : Row

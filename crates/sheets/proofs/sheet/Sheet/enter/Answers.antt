@@ -1,12 +1,11 @@
-use Rattle.std.proofs.Common.{◌≡◌, ℕ, ◌^◌, ◌<◌, ◌≤◌, true, false, List, [], ◌∷◌, ◌++◌, length, Some, Ok, sym, refl, ap, ◌∙◌, arith, rules}
+use Rattle.std.proofs.Common.{◌≡◌, ℕ, ◌^◌, ◌<◌, ◌≤◌, [], ◌∷◌, ◌++◌, length, Some, Ok, sym, refl, ap, ◌∙◌, arith, rules}
 use lib.Ieee.{Float}
 use Rattle.exact.specs.Fraction.{Fraction}
 use Rattle.std.proofs.lemmas.List.{length-map, length-take}
 use Rattle.sheets.specs.declared.row.Row.{Row}
-use Rattle.sheets.specs.Rows.{samples, among}
+use Rattle.sheets.specs.Rows.{samples}
 use Rattle.sheets.specs.Standing.{standing}
-use Rattle.sheets.proofs.Sheets.{has-angle, taken_if, new_if, enter-taken, enter-full, enter-ok, count-samples, distinct_more, row_made, passed}
-use Rattle.shares.specs.Share.{sine_share, cosine_share}
+use Rattle.sheets.proofs.Sheets.{has-angle, taken_if, new_if, enter-taken, enter-full, enter-ok, distinct_more, row_made, passed}
 use Rattle.sheets.proofs.sheet.Sheet.enter.Given as given
 use Rattle.sheets.proofs.sheet.Sheet.enter.Goals as goal
 

@@ -1,14 +1,11 @@
-use Rattle.std.proofs.Common.{◌≡◌, ℕ, ◌^◌, ◌<◌, ◌≤◌, true, false, List, [], ◌∷◌, ◌++◌, length, get_or, set, ℤ, pos, Some, Ok, sym, refl, ap, ◌∙◌, subst, arith, rules}
+use Rattle.std.proofs.Common.{pos, refl, ap, ◌∙◌, arith}
 use mathlib.Core.List.Permᴰ
-use Rattle.std.proofs.lemmas.List.{length-map, length-take, get_or-map}
+use Rattle.std.proofs.lemmas.List.{length-take}
 use Rattle.sheets.specs.declared.row.Row.{Row}
-use Rattle.sheets.specs.Rows.{samples, among, distinct}
-use Rattle.sheets.specs.Standing.{standing, Found, removed}
-use Rattle.sheets.specs.Sheets.{corrected, InAnyOrder}
-use Rattle.sheets.specs.Rewrite.{rewritten}
-use Rattle.sheets.proofs.Sheets.{has-angle, there, correct_ok, withdraw_ok, withdraw_absent, row_made, passed}
-use Rattle.sheets.proofs.Orders.{withdrawn-order, withdrawn-distinct, corrected-at, corrected-samples}
-use Rattle.shares.specs.Share.{sine_share, cosine_share}
+use Rattle.sheets.specs.Rows.{samples, distinct}
+use Rattle.sheets.specs.Standing.{standing}
+use Rattle.sheets.proofs.Sheets.{there, withdraw_ok, withdraw_absent}
+use Rattle.sheets.proofs.Orders.{withdrawn-order, withdrawn-distinct}
 use Rattle.sheets.proofs.sheet.Sheet.withdraw.Goals as goal
 
 abbrev none : Row

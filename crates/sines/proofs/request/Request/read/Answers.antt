@@ -1,5 +1,5 @@
-use Rattle.std.proofs.Common.{◌≡◌, ◌+◌, ◌-◌, length, get_or, take, drop, sym, ◌∙◌, subst, arith, rules}
-use Rattle.sines.specs.Reading.{Named, Read}
+use Rattle.std.proofs.Common.{◌≡◌, ◌-◌, length, get_or, take, drop, sym, ◌∙◌, subst, arith, rules}
+use Rattle.sines.specs.Reading.{Read}
 use Rattle.sines.proofs.Lines.{no_word, asked, whole-tail}
 use Rattle.sines.proofs.request.Request.read.Goals as goal
 
