@@ -1,7 +1,7 @@
 -- The totals of two sheets of the same motion.
 use Rattle.std.proofs.Common.{◌≡◌, ℕ, zero, suc, ◌+◌, ◌*◌, ◌^◌, ◌<◌, true, false, not, eqb, ◌⊎◌, List, [], ◌∷◌, map, length, Some, None, sym, refl, ap, ◌∙◌, subst, inl, inr, arith}
 use mathlib.Core.List.Permᴰ
-use Rattle.std.specs.List.{ContainsAt as Has, HoldsAt, AllByRecursion as All}
+use Rattle.std.specs.List.{ContainsAt as Has, HoldsAt, AllByRecursion}
 use Rattle.std.proofs.lemmas.List.Sums.{sum_by-cons}
 use Rattle.std.proofs.lemmas.Bool.{eq-eqb, or_left, or_right, and_parts, not-true}
 use Rattle.exact.specs.Fraction.{Fraction, ◌⊑◌, ◌⊕◌, ◌⊗◌, whole, Size, Within, leq, size_test}
@@ -44,7 +44,7 @@ has_in x [] k h a = absurd (omega arith)
 has_in x (y ∷ ys) zero h a = inl (sym (a x))
 has_in x (y ∷ ys) (suc k) h a = inr (has_in x ys k (omega arith) a)
 
-all_in : {X : Type 0} (P : X → Type 0) (xs : List X) → All P xs → (x : X) → In x xs → P x
+all_in : {X : Type 0} (P : X → Type 0) (xs : List X) → AllByRecursion P xs → (x : X) → In x xs → P x
 unfolding In
 all_in P [] h x i = absurd i
 all_in P (y ∷ ys) h x (inl p) = subst P (sym p) h.0

@@ -2,7 +2,7 @@
 use Rattle.std.proofs.Common.{◌≡◌, ℕ, ◌*◌, ◌%◌, ◌^◌, ◌<◌, true, List, [], ◌∷◌, map, ℤ, pos, ◌+ℤ◌, ◌*ℤ◌, is_some, Some, None, Ok, Err, fold, sym, refl, ap, ◌∙◌, subst, mod-eq_of_lt, arith}
 use mathlib.Core.List.Permᴰ
 use lib.Ieee.{Float}
-use Rattle.std.specs.List.{AllByRecursion as All}
+use Rattle.std.specs.List.{AllByRecursion}
 use Rattle.std.proofs.lemmas.List.{length-map}
 use Rattle.exact.specs.Fraction.{Fraction, ◌≈◌, ◌⊗◌, whole, Within, within_test}
 use Rattle.exact.specs.Value.{integer}
@@ -54,14 +54,14 @@ plain-filled answer (e ∷ book) = ap (λ l. e ∷ l) (plain-filled answer book)
 
 -- ---- all rows
 module _ (steps : ℕ → Steps) (answer : ℕ → Reading) (keeps : (w : ℕ) → w < 2 ^ 32 → Keeps (steps w) (answer w)) where
-  shared-all : (book : List Entry) → All (λ e. e.word < 2 ^ 32) book → All (Angled steps) book → All (Shared answer) (map (filled answer) book)
+  shared-all : (book : List Entry) → AllByRecursion (λ e. e.word < 2 ^ 32) book → AllByRecursion (Angled steps) book → AllByRecursion (Shared answer) (map (filled answer) book)
   shared-all [] w h = tt
   shared-all (e ∷ book) w h = (shared-one (steps e.word) (answer e.word) (keeps e.word w.0) h.0, shared-all book w.1 h.1)
 
   -- the shares that `share` gives are near the exact f
   module _ (f : Fraction → Fraction) (share : Reading → ℤ) (kept : (o : Steps) (a : Reading) → Keeps o a → Within (integer (share a)) (whole (2 ^ 30) ⊗ of_steps f o) (whole 33)) where
-    parts-near : (book : List Entry) → All (λ e. e.word < 2 ^ 32) book
-        → All (λ e. Within (integer (pos e.speed *ℤ share (answer e.word))) (whole e.speed ⊗ (whole (2 ^ 30) ⊗ of_steps f (steps e.word))) (whole (33 * e.speed))) book
+    parts-near : (book : List Entry) → AllByRecursion (λ e. e.word < 2 ^ 32) book
+        → AllByRecursion (λ e. Within (integer (pos e.speed *ℤ share (answer e.word))) (whole e.speed ⊗ (whole (2 ^ 30) ⊗ of_steps f (steps e.word))) (whole (33 * e.speed))) book
     parts-near [] w = tt
     parts-near (e ∷ book) w =
         let s : ℤ = share (answer e.word) in

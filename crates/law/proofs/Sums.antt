@@ -1,7 +1,7 @@
 -- Sums of fractions, in any order, and how far two of them lie apart.
 use Rattle.std.proofs.Common.{◌≡◌, ℕ, zero, suc, ◌+◌, ◌*◌, List, [], ◌∷◌, map, ℤ, pos, negsuc, ◌+ℤ◌, ◌*ℤ◌, neg_ℤ, fold, sum_by, sym, refl, ap, ◌∙◌, mul-add, arith}
 use mathlib.Core.List.Permᴰ
-use Rattle.std.specs.List.{AllByRecursion as All}
+use Rattle.std.specs.List.{AllByRecursion}
 use Rattle.std.proofs.lemmas.List.Sums.{sum_by-cons}
 use Rattle.exact.specs.Fraction.{Fraction, ◌≈◌, ◌⊑◌, ◌⊕◌, ◌⊗◌, neg, whole, Size, Within}
 use Rattle.exact.specs.Value.{integer}
@@ -66,6 +66,6 @@ pub none_apart : (m : ℕ) → Within (whole 0) (whole 0) (whole (m * 0))
 none_apart m = within-⊑ (record { le = omega arith }) (within-refl (≈-refl (whole 0)))
 
 -- two sums over one list
-pub sums_apart : {X : Type 0} (m : ℕ) (n : X → ℕ) (f g : X → Fraction) (xs : List X) → All (λ x. Within (f x) (g x) (whole (m * n x))) xs → Within (sum_f f xs) (sum_f g xs) (whole (m * sum_by n xs))
+pub sums_apart : {X : Type 0} (m : ℕ) (n : X → ℕ) (f g : X → Fraction) (xs : List X) → AllByRecursion (λ x. Within (f x) (g x) (whole (m * n x))) xs → Within (sum_f f xs) (sum_f g xs) (whole (m * sum_by n xs))
 sums_apart m n f g [] h = none_apart m
 sums_apart m n f g (x ∷ xs) h = add_apart m (n x) (sum_by n xs) (sum_by n (x ∷ xs)) (f x) (g x) (sum_f f xs) (sum_f g xs) (sum_by-cons n x xs) h.0 (sums_apart m n f g xs h.1)

@@ -1,6 +1,6 @@
 -- What a sheet holds after any calls, and how near two sheets of the same motion are. Definitions only.
 use Rattle.std.specs.Prelude.{◌≡◌, ℕ, ◌*◌, ◌^◌, List, [], ◌∷◌, map, length, Some, None, Ok, sum_by, Float}
-use Rattle.std.specs.List.{ContainsAt as Has, AllByRecursion as All}
+use Rattle.std.specs.List.{ContainsAt as Has, AllByRecursion}
 use Rattle.exact.specs.Fraction.{Fraction, ◌⊕◌, ◌⊗◌, whole, tiny, Within}
 use Rattle.exact.specs.Value.{integer}
 use Rattle.circle.specs.Circle.{exact_sine, exact_cosine, Alike}
@@ -52,7 +52,7 @@ pub record Holds (steps : ℕ → Steps) (answer : ℕ → Reading) (calls : Lis
   pub order : InAnyOrder (map plain rows) (standing_after steps calls)
   pub count : length rows ≡ length (standing_after steps calls)
   pub speed : totals.speed ≡ cms (standing_after steps calls)
-  pub shares : All (Shared answer) rows
+  pub shares : AllByRecursion (Shared answer) rows
   pub along : Within (integer totals.along) (exact_along steps (standing_after steps calls)) (whole (33 * cms (standing_after steps calls)))
   pub across : Within (integer totals.across) (exact_across steps (standing_after steps calls)) (whole (33 * cms (standing_after steps calls)))
 
@@ -65,7 +65,7 @@ Agree None None = ⊥
 
 -- each of the one book's rows has one of the other's, of the same sample and speed, whose word's steps agree
 abbrev pub Matched : (ℕ → Steps) → (ℕ → Steps) → List Entry → List Entry → Type 0
-Matched one other es fs = All (λ e. (f : Entry) × Has fs f × (f.sample ≡ e.sample) × (f.speed ≡ e.speed) × Agree (one e.word) (other f.word)) es
+Matched one other es fs = AllByRecursion (λ e. (f : Entry) × Has fs f × (f.sample ≡ e.sample) × (f.speed ≡ e.speed) × Agree (one e.word) (other f.word)) es
 
 -- the same samples stand after both lists of calls, at the same speeds and at steps that agree
 pub record SameMotion (one : ℕ → Steps) (calls : List Call) (other : ℕ → Steps) (others : List Call) : Type 0 where

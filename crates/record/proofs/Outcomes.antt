@@ -1,7 +1,7 @@
 -- What the outcome of a record means.
 use Rattle.std.proofs.Common.{◌≡◌, ℕ, zero, suc, ◌+◌, ◌-◌, ◌*◌, ◌^◌, ◌<◌, ◌≤◌, Bool, true, false, cond, not, ◌||◌, eqb, ltb, ◌⊎◌, List, [], ◌∷◌, ◌++◌, map, length, get_or, take, drop, Some, None, Ok, Err, fold, filter, Option, Result, sym, refl, ap, ◌∙◌, subst, inl, inr, append_assoc, arith, lit<}
 use mathlib.Core.List.Permᴰ
-use Rattle.std.specs.List.{AllByRecursion as All}
+use Rattle.std.specs.List.{AllByRecursion}
 use Rattle.std.proofs.ByRecursion.{all_kept_by}
 use Rattle.std.proofs.lemmas.List.{get_or-drop}
 use Rattle.std.proofs.lemmas.Bool.{ltb-true, ltb-false}
@@ -194,17 +194,17 @@ read_fits s bytes r e h =
     let c = cut-bytes bytes w.piece w.is_cut h in
     (subst Fits w.is-item (item-fits w.kind.0 w.piece.body c.0), subst Bytes w.is-rest c.1)
 
-fields_fit : (n : ℕ) (s : State) (total : ℕ) (bytes : List ℕ) → Bytes bytes → All (λ f. Fits f.said) (fields n s total bytes)
+fields_fit : (n : ℕ) (s : State) (total : ℕ) (bytes : List ℕ) → Bytes bytes → AllByRecursion (λ f. Fits f.said) (fields n s total bytes)
 unfolding fields Fits
 fields_fit zero s total bytes h = tt
 fields_fit (suc n) s total [] h = tt
 fields_fit (suc n) s total (b ∷ bs) h =
-    let go : (q : Result Read Cause) → field_at s (b ∷ bs) ≡ q → All (λ f. Fits f.said) (record { at = total - length (b ∷ bs); said = saying q } ∷ following q (λ f. fields n f.state total f.rest)) =
-    λ q. elim q as (λ q. field_at s (b ∷ bs) ≡ q → All (λ f. Fits f.said) (record { at = total - length (b ∷ bs); said = saying q } ∷ following q (λ f. fields n f.state total f.rest)))
+    let go : (q : Result Read Cause) → field_at s (b ∷ bs) ≡ q → AllByRecursion (λ f. Fits f.said) (record { at = total - length (b ∷ bs); said = saying q } ∷ following q (λ f. fields n f.state total f.rest)) =
+    λ q. elim q as (λ q. field_at s (b ∷ bs) ≡ q → AllByRecursion (λ f. Fits f.said) (record { at = total - length (b ∷ bs); said = saying q } ∷ following q (λ f. fields n f.state total f.rest)))
     [ Ok r ↦ λ e. let p = read_fits s (b ∷ bs) r e h in (p.0, fields_fit n r.state total r.rest p.1) | Err c ↦ λ e. (tt, tt) ] in
     go (field_at s (b ∷ bs)) refl
 
-written-fit : (steps : ℕ → Steps) (book : List Entry) (call : Call) → CallFits call → All Fit book → All Fit (written steps book call)
+written-fit : (steps : ℕ → Steps) (book : List Entry) (call : Call) → CallFits call → AllByRecursion Fit book → AllByRecursion Fit (written steps book call)
 unfolding CallFits
 written-fit steps book (Enter e) c h = all-entered Fit (steps e.word) book e (λ _. c) h
 written-fit steps book (Correct e) c h = all-corrected Fit (steps e.word) book e (λ _. c) h
@@ -214,14 +214,14 @@ written-fit steps book (RowAt i) c h = h
 written-fit steps book Count c h = h
 written-fit steps book Totals c h = h
 
-calls-fit : (steps : ℕ → Steps) (book : List Entry) (q : Result Item Cause) (fs : List Field) → Fits q → ((b : List Entry) → All Fit b → All Fit (fold (written steps) b (calls_in fs))) → All Fit book → All Fit (fold (written steps) book (calling q (calls_in fs)))
+calls-fit : (steps : ℕ → Steps) (book : List Entry) (q : Result Item Cause) (fs : List Field) → Fits q → ((b : List Entry) → AllByRecursion Fit b → AllByRecursion Fit (fold (written steps) b (calls_in fs))) → AllByRecursion Fit book → AllByRecursion Fit (fold (written steps) book (calling q (calls_in fs)))
 unfolding Fits
 calls-fit steps book (Ok (item.Edition e)) fs f rest h = rest book h
 calls-fit steps book (Ok (item.Mount m)) fs f rest h = rest book h
 calls-fit steps book (Ok (item.Put call)) fs f rest h = rest (written steps book call) (written-fit steps book call f h)
 calls-fit steps book (Err c) fs f rest h = rest book h
 
-standing-fit : (steps : ℕ → Steps) (fs : List Field) → All (λ f. Fits f.said) fs → (book : List Entry) → All Fit book → All Fit (fold (written steps) book (calls_in fs))
+standing-fit : (steps : ℕ → Steps) (fs : List Field) → AllByRecursion (λ f. Fits f.said) fs → (book : List Entry) → AllByRecursion Fit book → AllByRecursion Fit (fold (written steps) book (calls_in fs))
 standing-fit steps [] a book h = h
 standing-fit steps (f ∷ fs) a book h = calls-fit steps book f.said fs a.0 (standing-fit steps fs a.1) h
 
@@ -243,7 +243,7 @@ stands : (bytes : List ℕ) (book : List Entry) → Bytes bytes → replay (step
 stands bytes book h e =
     let calls : List Call = calls_in (fields_of bytes) in
     let is : standing_after (steps_of bytes) calls ≡ book = all_yes (steps_of bytes) [] (fields_of bytes) book e in
-    let words : All Fit (standing_after (steps_of bytes) calls) = standing-fit (steps_of bytes) (fields_of bytes) (fields_fit (length bytes) state.Edition (length bytes) bytes h) [] tt in
+    let words : AllByRecursion Fit (standing_after (steps_of bytes) calls) = standing-fit (steps_of bytes) (fields_of bytes) (fields_fit (length bytes) state.Edition (length bytes) bytes h) [] tt in
     let rs : List Row = map (filled (answer_of bytes)) (standing_after (steps_of bytes) calls) in
     let same : (b : List Entry) → standing_after (steps_of bytes) calls ≡ b → Stands bytes (tally_of (edition_of (fields_of bytes)) (answer_of bytes) b) =
     λ b q. subst (λ z. Stands bytes (tally_of (edition_of (fields_of bytes)) (answer_of bytes) z)) q

@@ -1,7 +1,7 @@
 -- One call on a sheet and on the plain book.
 use Rattle.std.proofs.Common.{◌≡◌, ℕ, ◌^◌, ◌<◌, Bool, true, false, cond, not, eqb, ltb, List, [], ◌∷◌, ◌++◌, map, length, Some, None, Ok, Err, filter, Result, sym, refl, ap, ◌∙◌, subst}
 use mathlib.Core.List.Permᴰ
-use Rattle.std.specs.List.{AllByRecursion as All}
+use Rattle.std.specs.List.{AllByRecursion}
 use Rattle.std.proofs.lemmas.List.{map_push}
 use Rattle.std.proofs.ByRecursion.{All-push, all_kept_by}
 use Rattle.std.proofs.lemmas.Bool.{cond_both}
@@ -66,7 +66,7 @@ without-filled answer (f ∷ book) s =
     λ t. elim t as (λ t. cond t (filled answer f ∷ more) more ≡ map (filled answer) (cond t (f ∷ kept) kept)) [ true ↦ ap (λ l. filled answer f ∷ l) (without-filled answer book s) | false ↦ without-filled answer book s ] in
     go (not (eqb f.sample s))
 
-pub all-replaced : (P : Entry → Type 0) (book : List Entry) (s : ℕ) (e : Entry) → P e → All P book → All P (map (λ f. cond (eqb f.sample s) e f) book)
+pub all-replaced : (P : Entry → Type 0) (book : List Entry) (s : ℕ) (e : Entry) → P e → AllByRecursion P book → AllByRecursion P (map (λ f. cond (eqb f.sample s) e f) book)
 all-replaced P [] s e p h = h
 all-replaced P (f ∷ book) s e p h = (cond_both (eqb f.sample s) e f P (λ _. p) (λ _. h.0), all-replaced P book s e p h.1)
 

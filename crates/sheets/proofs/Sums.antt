@@ -1,7 +1,7 @@
 -- Sums in any order.
 use Rattle.std.proofs.Common.{◌≡◌, ℕ, suc, List, ◌∷◌, length, ℤ, ◌+ℤ◌, fold, sum_by, refl, ap, ◌∙◌, subst, arith}
 use mathlib.Core.List.{Permᴰ}
-use Rattle.std.specs.List.{AllByRecursion as All}
+use Rattle.std.specs.List.{AllByRecursion}
 use Rattle.std.proofs.lemmas.List.Sums.{sum_by-cons}
 use Rattle.std.proofs.lemmas.Int.{ints}
 use Rattle.sheets.specs.Sheets.{InAnyOrder}
@@ -12,7 +12,7 @@ length-order (Permᴰ.cons e d) = ap suc (length-order d)
 length-order (Permᴰ.swap e f) = refl
 length-order (Permᴰ.trans d e) = length-order d ∙ length-order e
 
-pub all-order : {X : Type 0} (P : X → Type 0) {xs ys : List X} → InAnyOrder xs ys → All P xs → All P ys
+pub all-order : {X : Type 0} (P : X → Type 0) {xs ys : List X} → InAnyOrder xs ys → AllByRecursion P xs → AllByRecursion P ys
 all-order P Permᴰ.nil h = h
 all-order P (Permᴰ.cons e d) h = (subst P e h.0, all-order P d h.1)
 all-order P (Permᴰ.swap e f) h = (subst P f h.1.0, (subst P e h.0, h.1.1))

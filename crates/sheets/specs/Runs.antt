@@ -1,6 +1,6 @@
 -- A sheet beside the plain book. Definitions only.
 use Rattle.std.specs.Prelude.{ℕ, ◌^◌, ◌<◌, List, map}
-use Rattle.std.specs.List.{AllByRecursion as All}
+use Rattle.std.specs.List.{AllByRecursion}
 use Rattle.readers.specs.Meaning.{Reading}
 use Rattle.sheets.specs.declared.book.Entry.{Entry}
 use Rattle.sheets.specs.declared.row.Row.{Row}
@@ -13,4 +13,4 @@ filled answer e = row_for (answer e.word) e.sample e.speed e.word
 -- the sheet's rows are the book's, each with its shares, in any order; every word has 32 bits
 pub record Grown (answer : ℕ → Reading) (book : List Entry) (rows : List Row) : Type 0 where
   pub order : InAnyOrder rows (map (filled answer) book)
-  pub words : All (λ e. e.word < 2 ^ 32) book
+  pub words : AllByRecursion (λ e. e.word < 2 ^ 32) book
