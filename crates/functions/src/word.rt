@@ -21,44 +21,38 @@ pub fn size_bits(x: f32) -> u32
     f32_to_bits_with_nan(x) & 0x7fff_ffff
 }
 
-// The six functions on words, for Rust and C. A NaN's word is 7fc00000.
-#[unsafe(no_mangle)]
-pub extern "C" fn luhvend_sinf(word: u32) -> u32
+// The six functions on words. A NaN's word is 7fc00000. The crate functions_c exports them to Rust and C.
+pub fn luhvend_sinf(word: u32) -> u32
     ensures { result ≡ on_word sinf word }
 {
     f32_to_bits_with_nan(f_sinf(f32_from_bits_with_nan(word)))
 }
 
-#[unsafe(no_mangle)]
-pub extern "C" fn luhvend_cosf(word: u32) -> u32
+pub fn luhvend_cosf(word: u32) -> u32
     ensures { result ≡ on_word cosf word }
 {
     f32_to_bits_with_nan(f_cosf(f32_from_bits_with_nan(word)))
 }
 
-#[unsafe(no_mangle)]
-pub extern "C" fn luhvend_tanf(word: u32) -> u32
+pub fn luhvend_tanf(word: u32) -> u32
     ensures { result ≡ on_word tanf word }
 {
     f32_to_bits_with_nan(f_tanf(f32_from_bits_with_nan(word)))
 }
 
-#[unsafe(no_mangle)]
-pub extern "C" fn luhvend_sinpif(word: u32) -> u32
+pub fn luhvend_sinpif(word: u32) -> u32
     ensures { result ≡ on_word sinpif word }
 {
     f32_to_bits_with_nan(f_sinpif(f32_from_bits_with_nan(word)))
 }
 
-#[unsafe(no_mangle)]
-pub extern "C" fn luhvend_cospif(word: u32) -> u32
+pub fn luhvend_cospif(word: u32) -> u32
     ensures { result ≡ on_word cospif word }
 {
     f32_to_bits_with_nan(f_cospif(f32_from_bits_with_nan(word)))
 }
 
-#[unsafe(no_mangle)]
-pub extern "C" fn luhvend_tanpif(word: u32) -> u32
+pub fn luhvend_tanpif(word: u32) -> u32
     ensures { result ≡ on_word tanpif word }
 {
     f32_to_bits_with_nan(f_tanpif(f32_from_bits_with_nan(word)))
