@@ -49,3 +49,13 @@ Reported (Err f) (Err e) before after = (e ≡ f) × (after ≡ before)
 abbrev pub Told : RecordFault → Result ℕ RecordFault → List ℕ → List ℕ → Type 0
 Told f (Ok n) before after = (96 ≤ length before) × (n ≡ length (refusal_text f)) × (after ≡ pasted before 0 (refusal_text f))
 Told f (Err e) before after = (length before < 96) × (e ≡ record { cause = Buffer; offset = 0 }) × (after ≡ before)
+
+-- what is printed of an outcome: the report, or the refusal's line
+abbrev pub text_of : Result Tally RecordFault → List ℕ
+text_of (Ok t) = report_text t
+text_of (Err f) = refusal_text f
+
+-- a length that was answered, and the buffer before and after: with at least 96 bytes, what is printed from its first byte on; else 0 and nothing written
+pub record Printed (bytes : List ℕ) (n : ℕ) (before after : List ℕ) : Type 0 where
+  pub some : 96 ≤ length before → (n ≡ length (text_of (outcome_of (length before) bytes))) × (after ≡ pasted before 0 (text_of (outcome_of (length before) bytes)))
+  pub none : length before < 96 → (n ≡ 0) × (after ≡ before)

@@ -4,6 +4,7 @@ pub mod edition;
 pub mod fault;
 pub mod field;
 pub mod item;
+pub mod print;
 pub mod reading;
 pub mod report;
 mod rows;
