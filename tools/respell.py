@@ -1,7 +1,7 @@
 #!/usr/bin/env python3
 """Brings the repository's own definitions and lemmas to the spelling of today's Rattle.
 
-usage: python3 tools/respell.py   once, at the top, after /opt/rattle/port/port.py
+usage: python3 tools/respell.py   once, at the top, after the port.py of the kit
 
 Beside it lies respell.txt, a line for each name: old and new. A name is a whole word of antt, so that no part of a longer one changes.
 It turns specs/, proofs/, the clauses of src/ and the texts of must-fail/. Functions of src/, exported names, strings and outputs keep theirs.
