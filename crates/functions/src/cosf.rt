@@ -3,14 +3,14 @@ ghost use Rattle.reducers.specs.Reduce.{reduce as reduced};
 ghost use Rattle.circle.specs.Circle.{exact_cosine};
 ghost use Rattle.formulas.specs.Distance.{Near};
 ghost use Rattle.reducers.specs.Exact.{radian_steps};
-ghost use Rattle.formulas.specs.Words.{cosine_at};
+ghost use Rattle.formulas.specs.Words.{cosine_at, on_word};
 ghost use Rattle.formulas.specs.Radians.{cos_near, cosf};
 
-use crate::word::{INFINITE, size_bits};
+use crate::word::{INFINITE, NAN, SIGN, widened};
 use forms::f_polyeval5;
-use reducers::{ArgumentReducer, step_of};
-use rounding::{f_fmla, narrow};
-use std::num::{f32_from_bits_with_nan, f32_to_f64_with_nan};
+use reducers::{ArgumentReducer, SMALL_PASS_BOUND, step_of};
+use rounding::{f_fmla, narrow_word};
+use std::num::{f32_from_bits_with_nan, f32_to_bits_with_nan};
 use table::{cosine, sincosf_eval};
 
 // For |x| <= pi/16, by even powers up to 8.
@@ -32,31 +32,43 @@ fn cos_near(xd: f64) -> f64
 fn cos_by_table(x: f64, x_abs: u32) -> f64
     ensures { result ≡ cosine_at (reduced x x_abs) }
 {
-    let (y, k) = ArgumentReducer { x, x_abs }.reduce();
+    let reducer = ArgumentReducer { x, x_abs };
+    // The small pass, which is the common one, stands in place.
+    let (y, k) = if x_abs < SMALL_PASS_BOUND {
+        reducer.reduce_small()
+    } else {
+        reducer.reduce()
+    };
     let rs = sincosf_eval::<f64>(y, step_of(k));
     cosine(rs, -rs.sin_k)
 }
 
-// The plain path.
-fn cosf_gen_impl(x: f32) -> f32
-    ensures { result ≡ cosf x }
+// The plain path, from word to word.
+pub(crate) fn cosf_word(word: u32) -> u32
+    ensures { result ≡ on_word cosf word }
 {
-    let x_abs = size_bits(x);
-    let xd = f32_to_f64_with_nan(f32_from_bits_with_nan(x_abs));
+    let x_abs = word % SIGN;
+    if x_abs >= INFINITE {
+        return NAN;
+    }
+    let xd = widened(x_abs);
 
     // |x| <= pi/16
     if x_abs <= 0x3e49_0fdb {
         // |x| < 0.000244141
         if x_abs < 0x3980_0000 {
-            return narrow(f_fmla(xd, f64::from_bits(0xbe60000000000000), 1.0));
+            return narrow_word(f_fmla(xd, f64::from_bits(0xbe60000000000000), 1.0));
         }
-        return narrow(cos_near(xd));
+        return narrow_word(cos_near(xd));
     }
+    narrow_word(cos_by_table(xd, x_abs))
+}
 
-    if x_abs >= INFINITE {
-        return f32::NAN;
-    }
-    narrow(cos_by_table(xd, x_abs))
+// The same on floats.
+fn cosf_gen_impl(x: f32) -> f32
+    ensures { result ≡ cosf x }
+{
+    f32_from_bits_with_nan(cosf_word(f32_to_bits_with_nan(x)))
 }
 
 // The cosine of x radians, within half a spacing at the answer and 2^-36 of the exact one.

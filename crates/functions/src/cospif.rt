@@ -2,15 +2,21 @@ ghost use Rattle.std.specs.Prelude.{◌≡◌};
 ghost use Rattle.reducers.specs.Reduce.{reduce_quarter};
 ghost use Rattle.circle.specs.Circle.{exact_cosine};
 ghost use Rattle.formulas.specs.Distance.{Near, half_turn_steps};
+ghost use Rattle.formulas.specs.Words.{on_word};
 ghost use Rattle.formulas.specs.HalfTurns.{cospi_near, cosine_by, by_quarter, cospif};
 
 use crate::sincosf_eval::{cospif_eval, sinpif_eval};
-use crate::word::{INFINITE, size_bits};
+use crate::word::{INFINITE, NAN, SIGN, widened};
 use forms::f_polyeval5;
 use reducers::pi::ArgumentReducerPi;
 use reducers::step_of;
-use rounding::{f_fmla, is_integerf, is_odd_integerf, narrow};
-use std::num::{f32_from_bits_with_nan, f32_to_f64_with_nan};
+use rounding::{f_fmla, is_integerf, is_odd_integerf, narrow_word};
+use std::num::{f32_from_bits_with_nan, f32_to_bits_with_nan};
+
+// The words of 1 and -1.
+const ONE: u32 = 0x3f80_0000;
+
+const MINUS_ONE: u32 = 0xbf80_0000;
 
 // For |x| <= 1/16, by even powers up to 8.
 fn cospi_near(xd: f64) -> f64
@@ -41,31 +47,38 @@ fn cospi_by_quarter(x: f64) -> f64
     }
 }
 
-// The plain path.
-fn cospif_gen_impl(x: f32) -> f32
-    ensures { result ≡ cospif x }
+// The plain path, from word to word.
+pub(crate) fn cospif_word(word: u32) -> u32
+    ensures { result ≡ on_word cospif word }
 {
-    let x_abs = size_bits(x);
-    let x = f32_from_bits_with_nan(x_abs);
-    let xd = f32_to_f64_with_nan(x);
+    let x_abs = word % SIGN;
+    if x_abs >= INFINITE {
+        return NAN;
+    }
+    let xd = widened(x_abs);
 
     // |x| <= 1/16
     if x_abs <= 0x3d80_0000 {
         // |x| < 0.0000777
         if x_abs < 0x38a2_f984 {
-            return narrow(f_fmla(xd, f64::from_bits(0xbe60000000000000), 1.0));
+            return narrow_word(f_fmla(xd, f64::from_bits(0xbe60000000000000), 1.0));
         }
-        return narrow(cospi_near(xd));
+        return narrow_word(cospi_near(xd));
     }
 
-    if x_abs >= INFINITE {
-        return f32::NAN;
-    }
     // Numbers greater or equal to 2^23 are always integers.
+    let x = f32::from_bits(x_abs);
     if x_abs >= 0x4b00_0000 || is_integerf(x) {
-        return if is_odd_integerf(x) { -1.0 } else { 1.0 };
+        return if is_odd_integerf(x) { MINUS_ONE } else { ONE };
     }
-    narrow(cospi_by_quarter(xd))
+    narrow_word(cospi_by_quarter(xd))
+}
+
+// The same on floats.
+fn cospif_gen_impl(x: f32) -> f32
+    ensures { result ≡ cospif x }
+{
+    f32_from_bits_with_nan(cospif_word(f32_to_bits_with_nan(x)))
 }
 
 // The cosine of x half turns, cos(pi*x), within half a spacing at the answer and 2^-36 of the exact one.

@@ -3,14 +3,14 @@ ghost use Rattle.reducers.specs.Reduce.{reduce as reduced};
 ghost use Rattle.circle.specs.Circle.{exact_sine};
 ghost use Rattle.formulas.specs.Distance.{Near};
 ghost use Rattle.reducers.specs.Exact.{radian_steps};
-ghost use Rattle.formulas.specs.Words.{sine_at};
+ghost use Rattle.formulas.specs.Words.{sine_at, on_word};
 ghost use Rattle.formulas.specs.Radians.{sin_near, sinf};
 
-use crate::word::{INFINITE, size_bits};
+use crate::word::{INFINITE, NAN, SIGN, widened};
 use forms::f_polyeval5;
-use reducers::{ArgumentReducer, step_of};
-use rounding::{f_fmla, narrow};
-use std::num::f32_to_f64_with_nan;
+use reducers::{ArgumentReducer, SMALL_PASS_BOUND, step_of};
+use rounding::{f_fmla, narrow_word};
+use std::num::{f32_from_bits_with_nan, f32_to_bits_with_nan};
 use table::{sincosf_eval, sine};
 
 // For |x| <= pi/16, by even powers of sin(x)/x up to 8.
@@ -33,17 +33,26 @@ fn sin_near(xd: f64) -> f64
 fn sin_by_table(x: f64, x_abs: u32) -> f64
     ensures { result ≡ sine_at (reduced x x_abs) }
 {
-    let (y, k) = ArgumentReducer { x, x_abs }.reduce();
+    let reducer = ArgumentReducer { x, x_abs };
+    // The small pass, which is the common one, stands in place.
+    let (y, k) = if x_abs < SMALL_PASS_BOUND {
+        reducer.reduce_small()
+    } else {
+        reducer.reduce()
+    };
     let rs = sincosf_eval::<f64>(y, step_of(k));
     sine(rs)
 }
 
-// The plain path.
-fn sinf_gen_impl(x: f32) -> f32
-    ensures { result ≡ sinf x }
+// The plain path, from word to word.
+pub(crate) fn sinf_word(word: u32) -> u32
+    ensures { result ≡ on_word sinf word }
 {
-    let x_abs = size_bits(x);
-    let xd = f32_to_f64_with_nan(x);
+    let x_abs = word % SIGN;
+    if x_abs >= INFINITE {
+        return NAN;
+    }
+    let xd = widened(word);
 
     // |x| <= pi/16
     if x_abs <= 0x3e49_0fdb {
@@ -51,17 +60,20 @@ fn sinf_gen_impl(x: f32) -> f32
         if x_abs < 0x39e8_9769 {
             if x_abs == 0 {
                 // For signed zeros.
-                return x;
+                return word;
             }
-            return narrow(f_fmla(xd, f64::from_bits(0xbe60000000000000), xd));
+            return narrow_word(f_fmla(xd, f64::from_bits(0xbe60000000000000), xd));
         }
-        return narrow(sin_near(xd));
+        return narrow_word(sin_near(xd));
     }
+    narrow_word(sin_by_table(xd, x_abs))
+}
 
-    if x_abs >= INFINITE {
-        return f32::NAN;
-    }
-    narrow(sin_by_table(xd, x_abs))
+// The same on floats.
+fn sinf_gen_impl(x: f32) -> f32
+    ensures { result ≡ sinf x }
+{
+    f32_from_bits_with_nan(sinf_word(f32_to_bits_with_nan(x)))
 }
 
 // The sine of x radians, within half a spacing at the answer and 2^-36 of the exact one.

@@ -2,15 +2,16 @@ ghost use Rattle.std.specs.Prelude.{◌≡◌};
 ghost use Rattle.reducers.specs.Reduce.{reduce_quarter};
 ghost use Rattle.circle.specs.Circle.{exact_sine};
 ghost use Rattle.formulas.specs.Distance.{Near, half_turn_steps};
+ghost use Rattle.formulas.specs.Words.{on_word};
 ghost use Rattle.formulas.specs.HalfTurns.{sinpi_near, sine_by, by_quarter, sinpif};
 
 use crate::sincosf_eval::{cospif_eval, sinpif_eval};
-use crate::word::{INFINITE, size_bits};
+use crate::word::{INFINITE, NAN, SIGN, widened, zero_like};
 use forms::f_polyeval5;
 use reducers::pi::ArgumentReducerPi;
 use reducers::step_of;
-use rounding::{copysignfk, f_fmla, is_integerf, narrow};
-use std::num::f32_to_f64_with_nan;
+use rounding::{f_fmla, is_integerf, narrow_word};
+use std::num::{f32_from_bits_with_nan, f32_to_bits_with_nan};
 
 // For |x| <= 1/16, by even powers of sin(pi*x)/x up to 8.
 fn sinpi_near(xd: f64) -> f64
@@ -41,12 +42,15 @@ fn sinpi_by_quarter(x: f64) -> f64
     }
 }
 
-// The plain path.
-fn sinpif_gen_impl(x: f32) -> f32
-    ensures { result ≡ sinpif x }
+// The plain path, from word to word.
+pub(crate) fn sinpif_word(word: u32) -> u32
+    ensures { result ≡ on_word sinpif word }
 {
-    let x_abs = size_bits(x);
-    let xd = f32_to_f64_with_nan(x);
+    let x_abs = word % SIGN;
+    if x_abs >= INFINITE {
+        return NAN;
+    }
+    let xd = widened(word);
 
     // |x| <= 1/16
     if x_abs <= 0x3d80_0000 {
@@ -54,7 +58,7 @@ fn sinpif_gen_impl(x: f32) -> f32
         if x_abs < 0x3580_2126 {
             if x_abs == 0 {
                 // For signed zeros.
-                return x;
+                return word;
             }
             // sin(pi*x) ~ pi*x - pi^3*x^3/6
             let p = f_fmla(
@@ -62,19 +66,23 @@ fn sinpif_gen_impl(x: f32) -> f32
                 f64::from_bits(0xc014abbce625be53),
                 f64::from_bits(0x400921fb54442d18),
             );
-            return narrow(xd * p);
+            return narrow_word(xd * p);
         }
-        return narrow(sinpi_near(xd));
+        return narrow_word(sinpi_near(xd));
     }
 
-    if x_abs >= INFINITE {
-        return f32::NAN;
-    }
     // Numbers greater or equal to 2^23 are always integers.
-    if x_abs >= 0x4b00_0000 || is_integerf(x) {
-        return copysignfk(0.0, x);
+    if x_abs >= 0x4b00_0000 || is_integerf(f32::from_bits(word)) {
+        return zero_like(word);
     }
-    narrow(sinpi_by_quarter(xd))
+    narrow_word(sinpi_by_quarter(xd))
+}
+
+// The same on floats.
+fn sinpif_gen_impl(x: f32) -> f32
+    ensures { result ≡ sinpif x }
+{
+    f32_from_bits_with_nan(sinpif_word(f32_to_bits_with_nan(x)))
 }
 
 // The sine of x half turns, sin(pi*x), within half a spacing at the answer and 2^-36 of the exact one.

@@ -1,15 +1,15 @@
 ghost use Rattle.std.specs.Prelude.{◌≡◌};
 ghost use Rattle.reducers.specs.Reduce.{reduce as reduced};
-ghost use Rattle.formulas.specs.Words.{tangent_at};
+ghost use Rattle.formulas.specs.Words.{tangent_at, on_word};
 ghost use Rattle.reducers.specs.Exact.{radian_steps};
 ghost use Rattle.formulas.specs.Radians.{tan_near, tanf};
 ghost use Rattle.formulas.specs.Tangent.{NearTangent};
 
-use crate::word::{INFINITE, size_bits};
+use crate::word::{INFINITE, NAN, SIGN, widened};
 use forms::f_polyeval5;
-use reducers::{ArgumentReducer, step_of};
-use rounding::{f_fmla, narrow};
-use std::num::f32_to_f64_with_nan;
+use reducers::{ArgumentReducer, SMALL_PASS_BOUND, step_of};
+use rounding::{f_fmla, narrow_word};
+use std::num::{f32_from_bits_with_nan, f32_to_bits_with_nan};
 use table::tangent::{tanf_eval, tangent};
 
 // For |x| <= pi/32, by even powers of tan(x)/x up to 8.
@@ -32,33 +32,45 @@ fn tan_near(xd: f64) -> f64
 fn tan_by_table(x: f64, x_abs: u32) -> f64
     ensures { result ≡ tangent_at (reduced x x_abs) }
 {
-    let (y, k) = ArgumentReducer { x, x_abs }.reduce();
+    let reducer = ArgumentReducer { x, x_abs };
+    // The small pass, which is the common one, stands in place.
+    let (y, k) = if x_abs < SMALL_PASS_BOUND {
+        reducer.reduce_small()
+    } else {
+        reducer.reduce()
+    };
     tangent(tanf_eval(y, step_of(k)))
 }
 
-// The plain path.
-fn tanf_gen_impl(x: f32) -> f32
-    ensures { result ≡ tanf x }
+// The plain path, from word to word.
+pub(crate) fn tanf_word(word: u32) -> u32
+    ensures { result ≡ on_word tanf word }
 {
-    let x_abs = size_bits(x);
-    let xd = f32_to_f64_with_nan(x);
+    let x_abs = word % SIGN;
+    if x_abs >= INFINITE {
+        return NAN;
+    }
+    let xd = widened(word);
 
     // |x| < pi/32
     if x_abs <= 0x3dc9_0fdb {
         // |x| < 0.000244141
         if x_abs < 0x3980_0000 {
             if x_abs == 0 {
-                return x;
+                return word;
             }
-            return narrow(f_fmla(xd, f64::from_bits(0xbe60000000000000), xd));
+            return narrow_word(f_fmla(xd, f64::from_bits(0xbe60000000000000), xd));
         }
-        return narrow(tan_near(xd));
+        return narrow_word(tan_near(xd));
     }
+    narrow_word(tan_by_table(xd, x_abs))
+}
 
-    if x_abs >= INFINITE {
-        return f32::NAN;
-    }
-    narrow(tan_by_table(xd, x_abs))
+// The same on floats.
+fn tanf_gen_impl(x: f32) -> f32
+    ensures { result ≡ tanf x }
+{
+    f32_from_bits_with_nan(tanf_word(f32_to_bits_with_nan(x)))
 }
 
 // The tangent of x radians: never infinite, and times the exact cosine near the exact sine.

@@ -1,13 +1,17 @@
 ghost use Rattle.std.specs.Prelude.{◌≡◌, ◌<◌};
+ghost use Rattle.formulas.specs.Words.{on_word};
 ghost use Rattle.formulas.specs.HalfTurns.{tanpi_by, tanpi_at, tanpif};
 ghost use Rattle.formulas.specs.Tangent.{HalfOrNear};
 
-use crate::word::{INFINITE, size_bits};
+use crate::word::{INFINITE, NAN, SIGN, size_bits, widened, zero_like};
 use reducers::pi::ArgumentReducerPi;
 use reducers::step_of;
-use rounding::{copysignfk, f_fmla, narrow};
-use std::num::f32_to_f64_with_nan;
+use rounding::{copysignfk, f_fmla, narrow, narrow_word};
+use std::num::{f32_from_bits_with_nan, f32_to_bits_with_nan, f32_to_f64_with_nan};
 use table::tangent::{tanf_eval, tangent};
+
+// The word of 0.0001: below it two terms serve.
+const TWO_TERMS_BOUND: u32 = 0x38d1_b717;
 
 // tan(pi*x) where x is k + y steps, 32 to a half turn.
 fn tanpi_by_table(x: f32, y: f64, k: u8) -> f32
@@ -15,7 +19,7 @@ fn tanpi_by_table(x: f32, y: f64, k: u8) -> f32
     ensures { result ≡ tanpi_by x y k }
 {
     // |x| < 0.0001
-    if size_bits(x) < 0x38d1_b717 {
+    if size_bits(x) < TWO_TERMS_BOUND {
         // tan(pi*x) ~ pi*x + pi^3*x^3/3
         let dx = f32_to_f64_with_nan(x);
         let r = f_fmla(
@@ -47,23 +51,33 @@ fn tanpi_at(x: f32, y: f64, k: u8) -> f32
     }
 }
 
-// The plain path.
-fn tanpif_gen_impl(x: f32) -> f32
-    ensures { result ≡ tanpif x }
+// The plain path, from word to word.
+pub(crate) fn tanpif_word(word: u32) -> u32
+    ensures { result ≡ on_word tanpif word }
 {
-    let x_abs = size_bits(x);
+    let x_abs = word % SIGN;
     if x_abs >= INFINITE {
-        return f32::NAN;
+        return NAN;
     }
     // Numbers greater or equal to 2^24 are always even.
     if x_abs >= 0x4b80_0000 {
-        return copysignfk(0.0, x);
+        return zero_like(word);
     }
-    let reducer = ArgumentReducerPi {
-        x: f32_to_f64_with_nan(x),
-    };
-    let (y, k) = reducer.reduce();
-    tanpi_at(x, y, step_of(k))
+    let (y, k) = ArgumentReducerPi { x: widened(word) }.reduce();
+    let k = step_of(k);
+    // Near zero, and at quarters, where y is zero.
+    if x_abs < TWO_TERMS_BOUND || y == 0.0 {
+        return f32_to_bits_with_nan(tanpi_at(f32::from_bits(word), y, k));
+    }
+    // Elsewhere the table alone serves.
+    narrow_word(tangent(tanf_eval(y, k)))
+}
+
+// The same on floats.
+fn tanpif_gen_impl(x: f32) -> f32
+    ensures { result ≡ tanpif x }
+{
+    f32_from_bits_with_nan(tanpif_word(f32_to_bits_with_nan(x)))
 }
 
 // The tangent of x half turns: infinite at whole numbers and a half alone, and times the exact cosine near the exact sine.

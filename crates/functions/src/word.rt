@@ -1,18 +1,25 @@
-ghost use Rattle.std.specs.Prelude.{◌≡◌};
-ghost use Rattle.formulas.specs.Words.{size_bits, on_word};
-ghost use Rattle.formulas.specs.Radians.{sinf, cosf, tanf};
+ghost use Rattle.std.specs.Prelude.{◌≡◌, ◌%◌, ◌^◌, ◌<◌, from_bits, to_bits};
+ghost use Rattle.std.specs.Float.{binary32};
+ghost use Rattle.formulas.specs.Words.{size_bits, on_word, zero_of};
+ghost use Rattle.formulas.specs.Radians.{sinf, cosf, tanf, infinite};
 ghost use Rattle.formulas.specs.HalfTurns.{sinpif, cospif, tanpif};
 
-use crate::cosf::f_cosf;
-use crate::cospif::f_cospif;
-use crate::sinf::f_sinf;
-use crate::sinpif::f_sinpif;
-use crate::tanf::f_tanf;
-use crate::tanpif::f_tanpif;
-use std::num::{f32_from_bits_with_nan, f32_to_bits_with_nan};
+use crate::cosf::cosf_word;
+use crate::cospif::cospif_word;
+use crate::sinf::sinf_word;
+use crate::sinpif::sinpif_word;
+use crate::tanf::tanf_word;
+use crate::tanpif::tanpif_word;
+use std::num::f32_to_bits_with_nan;
 
 // The word of infinity. Every finite word without its sign is below it.
 pub const INFINITE: u32 = 0x7f80_0000;
+
+// The word of the NaN.
+pub(crate) const NAN: u32 = 0x7fc0_0000;
+
+// The weight of the sign.
+pub(crate) const SIGN: u32 = 0x8000_0000;
 
 // The word without its sign.
 pub fn size_bits(x: f32) -> u32
@@ -21,39 +28,55 @@ pub fn size_bits(x: f32) -> u32
     f32_to_bits_with_nan(x) & 0x7fff_ffff
 }
 
+// The float of a finite word, as an f64.
+pub(crate) fn widened(word: u32) -> f64
+    requires { word % 2 ^ 31 < infinite }
+    ensures { result ≡ from_bits binary32 word }
+{
+    f32::from_bits(word) as f64
+}
+
+// The word of a zero with the sign of a finite word.
+pub(crate) fn zero_like(word: u32) -> u32
+    requires { word % 2 ^ 31 < infinite }
+    ensures { result ≡ to_bits binary32 (zero_of (from_bits binary32 word)) }
+{
+    word - word % SIGN
+}
+
 // The six functions on words. A NaN's word is 7fc00000. The crate functions_c exports them to Rust and C.
 pub fn luhvend_sinf(word: u32) -> u32
     ensures { result ≡ on_word sinf word }
 {
-    f32_to_bits_with_nan(f_sinf(f32_from_bits_with_nan(word)))
+    sinf_word(word)
 }
 
 pub fn luhvend_cosf(word: u32) -> u32
     ensures { result ≡ on_word cosf word }
 {
-    f32_to_bits_with_nan(f_cosf(f32_from_bits_with_nan(word)))
+    cosf_word(word)
 }
 
 pub fn luhvend_tanf(word: u32) -> u32
     ensures { result ≡ on_word tanf word }
 {
-    f32_to_bits_with_nan(f_tanf(f32_from_bits_with_nan(word)))
+    tanf_word(word)
 }
 
 pub fn luhvend_sinpif(word: u32) -> u32
     ensures { result ≡ on_word sinpif word }
 {
-    f32_to_bits_with_nan(f_sinpif(f32_from_bits_with_nan(word)))
+    sinpif_word(word)
 }
 
 pub fn luhvend_cospif(word: u32) -> u32
     ensures { result ≡ on_word cospif word }
 {
-    f32_to_bits_with_nan(f_cospif(f32_from_bits_with_nan(word)))
+    cospif_word(word)
 }
 
 pub fn luhvend_tanpif(word: u32) -> u32
     ensures { result ≡ on_word tanpif word }
 {
-    f32_to_bits_with_nan(f_tanpif(f32_from_bits_with_nan(word)))
+    tanpif_word(word)
 }

@@ -6,8 +6,7 @@ ghost use Rattle.reducers.specs.Exact.{field, mod_turn, Reduced, PartsAreRight, 
 ghost use Rattle.reducers.specs.Reduce.{reduce_small, reduce_large, skips, lowest, leading, whole_turns, part, exponent_of};
 ghost use Rattle.reducers.specs.Reduce.{reduce as reduced};
 
-use rounding::{f_fmla, round};
-use std::num::saturating_f64_to_i64;
+use rounding::{f_fmla, round_counted};
 
 #[derive(Clone, Copy)]
 pub struct ArgumentReducer {
@@ -82,17 +81,20 @@ fn get_exponent_f32(bits: u32) -> i32
     ((bits >> 23) & 0xff) as i32 - 127
 }
 
+// The word of 2^22: floats below it are reduced by the first three parts.
+pub const SMALL_PASS_BOUND: u32 = 0x4a80_0000;
+
 impl ArgumentReducer {
     // For |x| < 2^22: k = round(x * 32 / pi) and y = (x * 32 / pi) - k.
     pub fn reduce_small(self) -> (f64, i64)
         ensures { result ≡ reduce_small self.x }
     {
         let prod = self.x * thirtytwo_over_pi(0);
-        let kd = round(prod);
+        let (kd, k) = round_counted(prod);
         let mut y = prod - kd;
         y = f_fmla(self.x, thirtytwo_over_pi(1), y);
         y = f_fmla(self.x, thirtytwo_over_pi(2), y);
-        (y, saturating_f64_to_i64(kd))
+        (y, k)
     }
 
     // The same for larger x of that exponent, k up to a multiple of 64.
@@ -102,28 +104,24 @@ impl ArgumentReducer {
         let idx = skipped(exponent);
         let prod_hi = self.x * thirtytwo_over_pi(idx);
         // Get the integral part of x * THIRTYTWO_OVER_PI[idx]
-        let k_hi = round(prod_hi);
+        let (k_hi, high) = round_counted(prod_hi);
         // Get the fractional part of x * THIRTYTWO_OVER_PI[idx]
         let frac = prod_hi - k_hi;
         let prod_lo = f_fmla(self.x, thirtytwo_over_pi(idx + 1), frac);
-        let k_lo = round(prod_lo);
+        let (k_lo, low) = round_counted(prod_lo);
 
         // Now y is the fractional parts.
         let mut y = prod_lo - k_lo;
         y = f_fmla(self.x, thirtytwo_over_pi(idx + 2), y);
         y = f_fmla(self.x, thirtytwo_over_pi(idx + 3), y);
 
-        (
-            y,
-            saturating_f64_to_i64(k_hi).wrapping_add(saturating_f64_to_i64(k_lo)),
-        )
+        (y, high.wrapping_add(low))
     }
 
     pub fn reduce(self) -> (f64, i64)
         ensures is { result ≡ reduced self.x self.x_abs }
         ensures right { (w : ℕ) → self.x ≡ from_bits binary32 w → self.x_abs ≡ w % 2147483648 → (field w ≢ 255) → Reduced w result.0 result.1 }
     {
-        const SMALL_PASS_BOUND: u32 = 0x4a80_0000u32;
         if self.x_abs < SMALL_PASS_BOUND {
             self.reduce_small()
         } else {

@@ -6,8 +6,7 @@ ghost use Rattle.exact.specs.Multiple.{Smaller};
 ghost use Rattle.reducers.specs.Reduce.{reduce_pi, reduce_quarter};
 ghost use Rattle.reducers.specs.Exact.{PiReduced, QuarterReduced};
 
-use rounding::{f_fmla, round};
-use std::num::saturating_f64_to_i64;
+use rounding::{f_fmla, round_counted};
 
 // The reducer of half turns: x stands for x * pi radians.
 #[derive(Clone, Copy)]
@@ -21,9 +20,9 @@ impl ArgumentReducerPi {
         ensures is { result ≡ reduce_pi self.x }
         ensures exact { T (finite self.x) → Smaller (value_of self.x) (whole 16777216) → PiReduced self.x result.0 result.1 }
     {
-        let kd = round(self.x * 32.0);
+        let (kd, k) = round_counted(self.x * 32.0);
         let y = f_fmla(self.x, 32.0, -kd);
-        (y, saturating_f64_to_i64(kd))
+        (y, k)
     }
 
     // k = round(x * 2) and y = x - k / 2.
@@ -31,8 +30,8 @@ impl ArgumentReducerPi {
         ensures is { result ≡ reduce_quarter self.x }
         ensures exact { T (finite self.x) → Smaller (value_of self.x) (whole 8388608) → QuarterReduced self.x result.0 result.1 }
     {
-        let kd = round(self.x + self.x);
+        let (kd, k) = round_counted(self.x + self.x);
         let y = f_fmla(kd, -0.5, self.x);
-        (y, saturating_f64_to_i64(kd))
+        (y, k)
     }
 }

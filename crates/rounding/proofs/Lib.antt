@@ -5,3 +5,4 @@ pub mod Cases
 pub mod Signs
 pub mod Wholes
 pub mod Narrows
+pub mod Counted

@@ -2,14 +2,15 @@
 use Rattle.std.proofs.Common.{◌≡◌, ℕ, zero, suc, ◌+◌, ◌-◌, ◌*◌, ◌/◌, ◌%◌, ◌^◌, ◌<◌, ◌≤◌, Bool, true, false, cond, not, T, ltb, leb, sym, refl, ap, ◌∙◌, subst, le_trans, le_of_eq, lt_of_lt_of_le, mul-le-mul_right, zero-lt-suc, mul_assoc, div-lt_iff_lt-mul, le_antisymm, mul-lt-mul_of_pos_right, mul-pos, lt_of_not-le, le-div_iff_mul-le, not-le_of_lt, arith, lit<, le→leb, ltb→lt, lt→ltb, nltb→le, pow_pos, pow_mono, pow-add, shl_lt}
 use Prim.Native.Nat.{compare, Ordering}
 use lib.Count.{count_trailing_zeros}
-use lib.Ieee.{Float, Format, binary32, binary64, nan, inf, fin, prec, low, up, down, size, nearest, odd, units, round, of_fields, of_bits, to_bits, fits}
+use lib.Ieee.{Float, Format, binary32, binary64, nan, inf, fin, prec, emax, low, up, down, size, nearest, odd, units, round, of_fields, of_bits, to_bits, fits, is_nan, eq, ne}
 use lib.Ieee.Exact.{HasValue}
 use lib.Ieee.Digits.{size-lt, size-le}
 use lib.Ieee.Fits.{round_is, down_pos, nearest-le}
-use lib.Ieee.Bits.{is_true, is_false, of_bits-to_bits}
+use lib.Ieee.Bits.{is_true, is_false, of_bits-to_bits, to_bits-of_bits}
 use lib.Ieee.Nearest.{closest, closest_same, div_same, nearest-ge}
 use lib.Ieee.Scale.{round_same}
 use Rattle.std.specs.Float.{round_to_format}
+use Rattle.std.proofs.num.Patterns.{differs}
 use Rattle.rounding.specs.Round.{exponent_field}
 use Rattle.rounding.specs.Narrowing.{narrow_bits}
 use Rattle.rounding.proofs.Fields.{fields, sign, pattern-is}
@@ -220,3 +221,46 @@ without_sign b r h e =
 
 pub narrow-joined : (x r : Float) (b c : ℕ) → T (fits binary64 x) → b ≡ to_bits binary64 x → 897 ≤ exponent_field binary64 b → exponent_field binary64 b ≤ 1150 → c ≡ narrow_bits b → r ≡ of_bits binary32 c → r ≡ round_to_format binary32 x
 narrow-joined x r b c h B lo hi C R = R ∙ ap (of_bits binary32) C ∙ narrow-pattern b lo hi ∙ ap (λ z. round_to_format binary32 (of_bits binary64 z)) B ∙ ap (round_to_format binary32) (of_bits-to_bits binary64 x h)
+
+-- ---- what is rounded is no NaN, unless it was one
+odd_number : (d : ℕ) (s : Bool) (q k l : ℕ) → T (not (is_nan (odd d s q k l)))
+unfolding odd is_nan
+odd_number d s zero k l = tt
+odd_number d s (suc q) k l = tt
+
+round_number : (f : Format) (s : Bool) (n d : ℕ) → T (not (is_nan (round f s n d)))
+unfolding round units is_nan
+round_number f s n d = go (ltb (q * 2 ^ k) (2 ^ (low f + suc (emax f))))
+  where
+    k : ℕ
+    k = size (n * 2 ^ low f / d) - prec f
+
+    q : ℕ
+    q = closest (n * 2 ^ low f) (d * 2 ^ k)
+
+    go : (t : Bool) → T (not (is_nan (cond t (odd (suc (prec f)) s q k (low f)) (inf s))))
+    go true = odd_number (suc (prec f)) s q k (low f)
+    go false = tt
+
+nearest-number : (f : Format) (x : Float) → T (not (is_nan x)) → T (not (is_nan (round_to_format f x)))
+unfolding round_to_format is_nan
+nearest-number f nan h = h
+nearest-number f (inf s) h = tt
+nearest-number f (fin s m e) h = round_number f s (m * up e) (down e)
+
+-- ---- the words
+no_nan : (x : Float) → T (not (is_nan x)) → ne x x ≡ true → ⊥
+no_nan x n h = subst (λ b. T (not b)) (sym (differs x) ∙ h) n
+
+-- that of a NaN
+pub nan-word : (x : Float) → ne x x ≡ true → ◌≡◌ {A = ℕ} 2143289344 (to_bits binary32 (round_to_format binary32 x))
+unfolding ne eq round_to_format to_bits is_nan
+nan-word nan h = refl
+nan-word (inf s) h = absurd (no_nan (inf s) tt h)
+nan-word (fin s m e) h = absurd (no_nan (fin s m e) tt h)
+
+-- that of the nearest f32
+pub narrow-word-joined : (x : Float) (c : ℕ) → T (fits binary64 x) → T (not (is_nan x)) → 897 ≤ exponent_field binary64 (to_bits binary64 x) → exponent_field binary64 (to_bits binary64 x) ≤ 1150 → c < 4294967296 → c ≡ narrow_bits (to_bits binary64 x) → c ≡ to_bits binary32 (round_to_format binary32 x)
+narrow-word-joined x c h n lo hi l C =
+    let e : of_bits binary32 c ≡ round_to_format binary32 x = narrow-joined x (of_bits binary32 c) (to_bits binary64 x) c h refl lo hi C refl in
+    sym (to_bits-of_bits binary32 c l (subst (λ z. T (not (is_nan z))) (sym e) (nearest-number binary32 x n))) ∙ ap (to_bits binary32) e

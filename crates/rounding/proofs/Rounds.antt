@@ -13,7 +13,7 @@ use Rattle.rounding.proofs.Fields.{fields, fields-zero, sign, pattern-is, Placed
 use Rattle.rounding.proofs.Half.{half-same, half-none, half-one, half-all, half-by, bounds, moved-is}
 
 -- ---- values
-value-whole : (x : Float) (s : Bool) (a c q : ℕ) → 0 < c → a ≡ q * c → HasValue x s a c → HasValue x s q 1
+pub value-whole : (x : Float) (s : Bool) (a c q : ℕ) → 0 < c → a ≡ q * c → HasValue x s a c → HasValue x s q 1
 value-whole nan s a c q C e h = h
 value-whole (inf t) s a c q C e h = h
 value-whole (fin t m d) s a c q C e h = (h.0, eq_of_mul-eq-mul_right c C (m * up d * 1) (q * down d) (turn (m * up d) (down d) h.1))
@@ -37,7 +37,7 @@ away-value f (fin t m e) s a c C h k = go t h.0 (fits-parts f t m e k)
     go true q P = subst (λ z. HasValue (float_round f (fin true m e)) z (ratio_round_half_up a c) 1) q (at true P)
     go false q P = subst (λ z. HasValue (float_round f (fin false m e)) z (ratio_round_half_up a c) 1) q (at false P)
 
-away-fits : (f : Format) (x : Float) → T (fits f (float_round f x))
+pub away-fits : (f : Format) (x : Float) → T (fits f (float_round f x))
 unfolding round_with fits
 away-fits f nan = tt
 away-fits f (inf s) = tt

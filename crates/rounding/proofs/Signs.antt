@@ -38,7 +38,7 @@ fields-sign f s (suc j) d n = go (eqb (suc j) (ones f)) (eqb d 0) n
     go false b n = odd_sign (prec f) s (hid f + d) j (low f)
 
 -- ---- the sign of a float is its pattern's first bit
-bits-sign : (f : Format) (b : ℕ) → T (not (is_nan (of_bits f b))) → is_sign_negative (of_bits f b) ≡ sign f b
+pub bits-sign : (f : Format) (b : ℕ) → T (not (is_nan (of_bits f b))) → is_sign_negative (of_bits f b) ≡ sign f b
 bits-sign f b n =
     let x = pattern-is f b (sign f b) (exponent_field f b) (b % hid f) refl refl refl in
     ap is_sign_negative x ∙ fields-sign f (sign f b) (exponent_field f b) (b % hid f) (subst (λ z. T (not (is_nan z))) x n)
@@ -65,7 +65,7 @@ unfolding sign
 test-is f x b h e = ap (leb (top f)) e ∙ sym (sign-is f x h)
 
 -- ---- the sign copied
-copied : (f : Format) (a b c : ℕ) → a < 2 * top f → b < 2 * top f → c ≡ a % top f + (b - b % top f) → of_bits f c ≡ float_with_sign (sign f b) (of_bits f a)
+pub copied : (f : Format) (a b c : ℕ) → a < 2 * top f → b < 2 * top f → c ≡ a % top f + (b - b % top f) → of_bits f c ≡ float_with_sign (sign f b) (of_bits f a)
 copied f a b c A B e =
     let p = placed f a b c A B e in
     pattern-is f c (sign f b) (exponent_field f a) (a % hid f) p.0 p.1 p.2

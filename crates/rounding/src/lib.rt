@@ -12,8 +12,8 @@ pub use bits::{
     biased_exponent_f64, copysignfk, copysignk, get_exponent_f32, get_exponent_f64, is_integerf,
     is_odd_integerf, is_sign_negative, mantissa_f64,
 };
-pub use narrowing::narrow;
-pub use nearest::{round, roundf};
+pub use narrowing::{narrow, narrow_word};
+pub use nearest::{round, round_counted, roundf};
 
 // A product and a sum, each rounded once.
 pub fn f_fmla(a: f64, b: f64, c: f64) -> f64

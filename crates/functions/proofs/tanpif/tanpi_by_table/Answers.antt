@@ -10,12 +10,12 @@ pub float_from_bits-f_fmla : goal.float_from_bits-f_fmla
 unfolding nan_bits
 float_from_bits-f_fmla c = tt
 
-pub float_from_bits-f_fmla-then-size_bits-lt953267991 : goal.float_from_bits-f_fmla-then-size_bits-lt953267991
+pub float_from_bits-f_fmla-then-size_bits-lt-TWO_TERMS_BOUND : goal.float_from_bits-f_fmla-then-size_bits-lt-TWO_TERMS_BOUND
 unfolding nan_bits
-float_from_bits-f_fmla-then-size_bits-lt953267991 c = tt
+float_from_bits-f_fmla-then-size_bits-lt-TWO_TERMS_BOUND c = tt
 
-pub returns-then-size_bits-lt953267991 : goal.returns-then-size_bits-lt953267991
-returns-then-size_bits-lt953267991 c =
+pub returns-then-size_bits-lt-TWO_TERMS_BOUND : goal.returns-then-size_bits-lt-TWO_TERMS_BOUND
+returns-then-size_bits-lt-TWO_TERMS_BOUND c =
     c.narrow.ensures ∙ ap (λ z. narrowed (mul binary64 z c.f32_to_f64_with_nan-dx.result)) c.f_fmla-r.ensures
     ∙ ap (λ z. narrowed (mul binary64 (fmla (mul binary64 z z) pi3_over3 pi) z)) c.f32_to_f64_with_nan-dx.ensures
     ∙ sym (tanpi_tiny c.args.x c.args.y c.args.k (omega arith))

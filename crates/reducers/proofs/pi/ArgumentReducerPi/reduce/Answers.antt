@@ -1,8 +1,11 @@
-use Rattle.std.proofs.Common.{rules}
+use Rattle.std.proofs.Common.{sym, ap, ◌∙◌, w64, SFits, rules}
+use lib.Ieee.{to_signed}
 use Rattle.reducers.proofs.HalfTurns.{pi-joined, pi-at}
 use Rattle.reducers.proofs.pi.ArgumentReducerPi.reduce.Goals as goal
 
 pub returns : goal.returns
 returns c =
-    let e = pi-joined c.args.self.x c.round-kd.result c.f_fmla-y.result c.saturating_f64_to_i64.result c.round-kd.ensures c.f_fmla-y.ensures c.saturating_f64_to_i64.ensures c.saturating_f64_to_i64.type_inv in
+    let n = c.round_counted-kd.ensures in
+    let f : SFits w64 c.round_counted-kd.result.1 = search rules in
+    let e = pi-joined c.args.self.x c.round_counted-kd.result.0 c.f_fmla-y.result c.round_counted-kd.result.1 n.whole c.f_fmla-y.ensures (n.count ∙ ap (to_signed 63) (sym n.whole)) f.sfits in
     record { is = e; exact = pi-at c.args.self.x c.f_fmla-y.result _ e (search rules) }

@@ -1,7 +1,0 @@
-use Rattle.std.proofs.Common.{ap, ◌∙◌}
-use lib.Ieee.{binary32, to_bits}
-use Rattle.formulas.specs.Radians.{cosf}
-use Rattle.functions.proofs.word.luhvend_cosf.Goals as goal
-
-pub returns : goal.returns
-returns c = c.f32_to_bits_with_nan.ensures ∙ ap (to_bits binary32) (c.f_cosf.ensures.is ∙ ap cosf c.f32_from_bits_with_nan.ensures)
