@@ -258,7 +258,7 @@ abs-below a c h = elim (signs a) [ inl p ↦ ⊑_trans (record { le = omega (ari
     abs-at-minus : (a : Fraction) → whole 0 ⊑ neg a → (a.plus - a.minus + (a.minus - a.plus)) * a.den + a.plus * a.den ≤ a.minus * a.den
     abs-at-minus a p = let q : a.plus ≤ a.minus = nonneg⁻ p in let e : a.plus - a.minus + (a.minus - a.plus) + a.plus ≡ a.minus = omega arith in omega (arith, ap (λ z. z * a.den) e)
 
--- closed fractions: `size-by-test tt` under `unfolding sizeTest`
+-- closed fractions: `size-by-test tt` under `unfolding size_test`
 pub size-by-test : (a c : Fraction) → T (size_test a c) → Size a c
 unfolding size_test
 size-by-test a c t = record { below = by-test (and_r (leq (neg c) a) (leq a c) t); above = by-test (and_l (leq (neg c) a) (leq a c) t) }

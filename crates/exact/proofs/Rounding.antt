@@ -196,12 +196,12 @@ pub sub-rounded : (f : Format) (x y : Float) → T (finite x) → T (finite y) �
 unfolding sub
 sub-rounded f x y p q = rounded-of (⊕-cong (≈-refl (value_of x)) (value-neg y)) (add-rounded f x (negate y) p (finite-neg y q))
 
-pub nearest_in-rounded : (f : Format) (x : Float) → T (finite x) → Rounded f (round_to_format f x) (value_of x)
+pub nearest_in_rounded : (f : Format) (x : Float) → T (finite x) → Rounded f (round_to_format f x) (value_of x)
 unfolding round_to_format
-nearest_in-rounded f nan p = absurd p
-nearest_in-rounded f (inf s) p = absurd p
-nearest_in-rounded f (fin true m e) p = round-rounded f true (m * up e) (down e) (down_pos e)
-nearest_in-rounded f (fin false m e) p = round-rounded f false (m * up e) (down e) (down_pos e)
+nearest_in_rounded f nan p = absurd p
+nearest_in_rounded f (inf s) p = absurd p
+nearest_in_rounded f (fin true m e) p = round-rounded f true (m * up e) (down e) (down_pos e)
+nearest_in_rounded f (fin false m e) p = round-rounded f false (m * up e) (down e) (down_pos e)
 
 -- x / y, for a y that is not zero: the fraction v with v * y = x
 abbrev pub nonzero : Float → Bool

@@ -10,7 +10,7 @@ use Rattle.forms.specs.Floats.{promise64}
 use Rattle.forms.specs.Meaning.{good-near}
 use Rattle.reducers.specs.Reduce.{reduce}
 use Rattle.reducers.specs.Exact.{field, radian_steps, mod_turn}
-use Rattle.reducers.proofs.Turns.{mod_turn-lt}
+use Rattle.reducers.proofs.Turns.{mod_turn_lt}
 use Rattle.reducers.proofs.Reading.{radian-reads}
 use Rattle.table.specs.Sines.{sine64, cosine64}
 use Rattle.table.proofs.Text.{sine-near, cosine-near}
@@ -29,13 +29,13 @@ module _ (y : Float) (k : ℤ) (u : Fraction) (H : Held y (frac 3 4)) (A : Alike
   sine-table : Good (sine64 y (mod_turn k)) (exact_sine u) short
   sine-table =
       let v = exact_sine (whole (mod_turn k) ⊕ value_of y) in
-      let g = good-near (sine64 y (mod_turn k)) v (whole 11 ⊗ tiny 47 ⊕ tiny 44) (sine-near promise64 y H (mod_turn k) (mod_turn-lt k)) in
+      let g = good-near (sine64 y (mod_turn k)) v (whole 11 ⊗ tiny 47 ⊕ tiny 44) (sine-near promise64 y H (mod_turn k) (mod_turn_lt k)) in
       record { fin = g.fin; near = within-⊑ table-short (triangle g.near (alike-sine (whole (mod_turn k) ⊕ value_of y) u (whole 1024 ⊗ tiny 60) A)) }
 
   cosine-table : Good (cosine64 y (mod_turn k)) (exact_cosine u) short
   cosine-table =
       let v = exact_cosine (whole (mod_turn k) ⊕ value_of y) in
-      let g = good-near (cosine64 y (mod_turn k)) v (whole 11 ⊗ tiny 47 ⊕ tiny 44) (cosine-near promise64 y H (mod_turn k) (mod_turn-lt k)) in
+      let g = good-near (cosine64 y (mod_turn k)) v (whole 11 ⊗ tiny 47 ⊕ tiny 44) (cosine-near promise64 y H (mod_turn k) (mod_turn_lt k)) in
       record { fin = g.fin; near = within-⊑ table-short (triangle g.near (alike-cosine (whole (mod_turn k) ⊕ value_of y) u (whole 1024 ⊗ tiny 60) A)) }
 
 pub sine-far : (w : ℕ) → field w ≢ 255 → Good (sine_at (reduce (of_bits binary32 w) (w % 2147483648))) (exact_sine (radian_steps (of_bits binary32 w))) short

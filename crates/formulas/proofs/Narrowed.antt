@@ -9,7 +9,7 @@ use Rattle.exact.specs.Fraction.{Fraction, ◌≈◌, ◌⊑◌, ◌⊕◌, ◌�
 use Rattle.exact.specs.Value.{value_of, signed, Good}
 use Rattle.exact.specs.Rounded.{Rounded, in_range, half_spacing}
 use Rattle.exact.proofs.Order.{by-test, nonneg, zero-⊕, ⊕-assoc, ≈→⊑, ≈→⊒, ≈-refl, ≈-sym, ⊑_refl, ⊑_trans, ⊕-mono, size-⊑, size-near, size-by-test, triangle, within-≈, within-sym, within-⊑}
-use Rattle.exact.proofs.Rounding.{nearest_in-rounded}
+use Rattle.exact.proofs.Rounding.{nearest_in_rounded}
 use Rattle.exact.proofs.Spacing.{rounded-spaced, rounded-best}
 use Rattle.exact.proofs.Poly.{var, con, ◌:+◌, free, same, le, hyp, ◌+c◌}
 use Rattle.exact.proofs.Cert.{prove}
@@ -26,7 +26,7 @@ two_in_range = tt
 
 pub narrowed-near : (z : Float) (v e : Fraction) → Good z v e → Size v (whole 1) → e ⊑ whole 1 → Good (narrowed z) v (half_spacing binary32 (narrowed z) ⊕ e)
 narrowed-near z v e g s l =
-    let r = rounded-spaced binary32 (narrowed z) (value_of z) (whole 2) (nearest_in-rounded binary32 z g.fin) (up-to-two g.near s l) two_in_range in
+    let r = rounded-spaced binary32 (narrowed z) (value_of z) (whole 2) (nearest_in_rounded binary32 z g.fin) (up-to-two g.near s l) two_in_range in
     record { fin = r.fin; near = triangle r.near g.near }
 
 -- ---- near 1, which is a value itself
@@ -51,7 +51,7 @@ half-left {z} {e} w l = prove (free z ∷ free e ∷ []) (le (con (whole 1)) (va
 pub narrowed-one : (z : Float) (e : Fraction) → Good z (whole 1) e → e ⊑ frac 1 2 → Good (narrowed z) (whole 1) (e ⊕ e)
 unfolding leq
 narrowed-one z e g l =
-    let R : Rounded binary32 (narrowed z) (value_of z) = nearest_in-rounded binary32 z g.fin in
+    let R : Rounded binary32 (narrowed z) (value_of z) = nearest_in_rounded binary32 z g.fin in
     let s : R.sign ≡ false = not_negative R.sign R.num R.over R.ok (value_of z) R.of (half-left g.near l) in
     let w : Within (signed R.sign (1 * 2 ^ 149) (2 ^ 149) (pow_pos 149)) (value_of z) e = subst (λ t. Within (signed t (1 * 2 ^ 149) (2 ^ 149) (pow_pos 149)) (value_of z) e) (sym s) (within-≈ (≈-sym one-is) (≈-refl (value_of z)) (within-sym g.near)) in
     let r = rounded-best binary32 (narrowed z) (value_of z) (whole 2) e 1 149 R (up-to-two g.near one_size (⊑_trans l (by-test tt))) two_in_range (lit< tt) w in

@@ -17,7 +17,7 @@ use Rattle.circle.specs.Circle.{step, quarter, exact_sine, exact_cosine, Alike}
 use Rattle.circle.proofs.Steady.{sin_cong, cos_cong}
 use Rattle.circle.proofs.Mirror.{sin_neg, alike-sine, alike-cosine}
 use Rattle.reducers.specs.Exact.{mod_turn, QuarterReduced}
-use Rattle.reducers.proofs.Turns.{mod_turn-turns, turns-alike}
+use Rattle.reducers.proofs.Turns.{mod_turn_turns, turns-alike}
 use Rattle.formulas.specs.Words.{zero64}
 use Rattle.formulas.specs.HalfTurns.{sinpi_y, cospi_y, sine_by, cosine_by}
 use Rattle.formulas.proofs.Narrowed.{short}
@@ -40,7 +40,7 @@ by-four : (j : ℕ) → whole j ≈ whole 4 ⊗ whole (j / 4) ⊕ whole (j % 4)
 by-four j = record { eq = omega arith }
 
 quarter-turns : (k : ℤ) → Multiple (whole 16 ⊗ (integer k ⊖ whole (mod_turn k))) (whole 64)
-quarter-turns k = multiple-unit (one-⊗ (whole 64)) (multiple-⊗ {a = whole 16} {u = whole 1} (record { p = 16; m = 0; is = record { eq = refl } }) (mod_turn-turns k))
+quarter-turns k = multiple-unit (one-⊗ (whole 64)) (multiple-⊗ {a = whole 16} {u = whole 1} (record { p = 16; m = 0; is = record { eq = refl } }) (mod_turn_turns k))
 
 quarters-alike : (X Y : Fraction) (k : ℤ) → Y ≈ X ⊖ integer k ⊗ frac 1 2 → Alike (quarters_on (mod_turn k % 4) (whole 32 ⊗ Y)) (whole 32 ⊗ X) (whole 0)
 quarters-alike X Y k e =

@@ -21,7 +21,7 @@ use Rattle.reducers.specs.Exact.{field, mod_turn, PiReduced}
 use Rattle.reducers.proofs.Radian.{word_of}
 use Rattle.reducers.proofs.HalfTurns.{pi}
 use Rattle.reducers.proofs.Reading.{pi-reduced-reads}
-use Rattle.reducers.proofs.Turns.{mod_turn-lt}
+use Rattle.reducers.proofs.Turns.{mod_turn_lt}
 use Rattle.formulas.specs.Words.{size_bits, fmla, zero64, zero_of}
 use Rattle.formulas.specs.Radians.{infinite}
 use Rattle.formulas.specs.HalfTurns.{pi as piBits, pi3_over3, tanpi_by, tanpi_at, tanpif}
@@ -163,7 +163,7 @@ module _ (w : ℕ) (W : w < 2 ^ 32) (F : field w < 255) where
     by : (0x38d1b717 ≤ s → j % 32 ≡ 16 → Apart (value_of y) (tiny 115)) → Tangential (tanpi_by x y j) u
     by f =
         elim (dec_le 0x38d1b717 s) [
-          | yes h ↦ subst (λ a. Tangential a u) (sym (tanpi_table x y j (subst (λ n. 0x38d1b717 ≤ n) (sym S) h))) (by-table y j u reads.0 (mod_turn-lt k) reads.1 (f h))
+          | yes h ↦ subst (λ a. Tangential a u) (sym (tanpi_table x y j (subst (λ n. 0x38d1b717 ≤ n) (sym S) h))) (by-table y j u reads.0 (mod_turn_lt k) reads.1 (f h))
           | no h ↦ terms (omega arith)
         ]
 
@@ -188,17 +188,17 @@ module _ (w : ℕ) (W : w < 2 ^ 32) (F : field w < 255) where
       at-whole : j % 32 ≡ 0 → Tangential (tanpi_at x y j) u
       at-whole h =
           subst (λ a. Tangential a u) (sym (tangent_whole x y j e h))
-          (exactly (cond (leb 32 j) (negate (zero_of x)) (zero_of x)) j (whole 0) (value_of y) u (zero-worth x (leb 32 j)) (at-steps (λ i. Within (whole 0 ⊗ exact_cosine (whole i)) (exact_sine (whole i)) (tiny 60)) 0 j (mod_turn-lt k) h step_0 step_32) Z reads.1)
+          (exactly (cond (leb 32 j) (negate (zero_of x)) (zero_of x)) j (whole 0) (value_of y) u (zero-worth x (leb 32 j)) (at-steps (λ i. Within (whole 0 ⊗ exact_cosine (whole i)) (exact_sine (whole i)) (tiny 60)) 0 j (mod_turn_lt k) h step_0 step_32) Z reads.1)
 
       at-quarter : j % 32 ≡ 8 → Tangential (tanpi_at x y j) u
       at-quarter h =
           subst (λ a. Tangential a u) (sym (tangent_quarter x y j e h))
-          (exactly unit32 j (whole 1) (value_of y) u one-worth (at-steps (λ i. Within (whole 1 ⊗ exact_cosine (whole i)) (exact_sine (whole i)) (tiny 60)) 8 j (mod_turn-lt k) h step_8 step_40) Z reads.1)
+          (exactly unit32 j (whole 1) (value_of y) u one-worth (at-steps (λ i. Within (whole 1 ⊗ exact_cosine (whole i)) (exact_sine (whole i)) (tiny 60)) 8 j (mod_turn_lt k) h step_8 step_40) Z reads.1)
 
       at-quarters : j % 32 ≡ 24 → Tangential (tanpi_at x y j) u
       at-quarters h =
           subst (λ a. Tangential a u) (sym (tangent_quarters x y j e h))
-          (exactly (negate unit32) j (neg (whole 1)) (value_of y) u (minus-worth unit32 (whole 1) one-worth) (at-steps (λ i. Within (neg (whole 1) ⊗ exact_cosine (whole i)) (exact_sine (whole i)) (tiny 60)) 24 j (mod_turn-lt k) h step_24 step_56) Z reads.1)
+          (exactly (negate unit32) j (neg (whole 1)) (value_of y) u (minus-worth unit32 (whole 1) one-worth) (at-steps (λ i. Within (neg (whole 1) ⊗ exact_cosine (whole i)) (exact_sine (whole i)) (tiny 60)) 24 j (mod_turn_lt k) h step_24 step_56) Z reads.1)
 
       at-halves : j % 32 ≡ 16 → AtHalf x (tanpi_at x y j)
       at-halves h = subst (λ a. AtHalf x a) (sym (tangent_half x y j e h)) (at-half x k (value_of y) R.exact Z h)

@@ -11,7 +11,7 @@ use Rattle.exact.specs.Rounded.{Rounded, in_range, half_spacing}
 use Rattle.exact.proofs.Order.{≈-sym, ≈-trans, ≈→⊑, ⊑_refl, ⊑_trans, ⊑-antisym, ⊑-abs, neg-⊑-abs, abs-size, abs-below, signs, nonneg, nonneg⁻, ⊕-zero, ⊕-mono, ⊗-nonneg, tiny-pos, ≈→⊒, size-by-test, ⊗-cong, neg-⊗, size-⊑, size-≈, size-⊕, size-⊗, size-neg, size-near, size→within, within→size, within-⊑, within-sym}
 use Rattle.exact.proofs.Poly.{var, con, ◌:+◌, ◌:*◌, ◌:-◌, free, same, le, hyp, num, ◌+c◌, ◌*c◌}
 use Rattle.exact.proofs.Cert.{ring, prove}
-use Rattle.exact.proofs.Rounding.{nearest_in-rounded}
+use Rattle.exact.proofs.Rounding.{nearest_in_rounded}
 use Rattle.exact.proofs.Spacing.{rounded-spaced}
 use Rattle.formulas.specs.Words.{narrowed}
 
@@ -141,7 +141,7 @@ narrowed_tangent z C S f s c o w =
     let a = value_of (narrowed z) in
     let b = abs a in
     let h = b ⊗ tiny 24 ⊕ tiny 150 in
-    let r = rounded-part binary32 (narrowed z) p (whole (2 ^ 121)) (nearest_in-rounded binary32 z f) s largest in
+    let r = rounded-part binary32 (narrowed z) p (whole (2 ^ 121)) (nearest_in_rounded binary32 z f) s largest in
     let d = a ⊗ C ⊖ S in
     let hp : abs p ⊑ b ⊕ h = abs-below p (b ⊕ h) (size-near (within-sym r.near) (abs-size a)) in
     let k : Size d ((tiny 25 ⊕ abs p ⊗ tiny 36) ⊕ h ⊗ abs C) = size-≈ (parted a p C S) (size-⊕ (within→size w) (size-⊗ (within→size r.near) (abs-size C))) in

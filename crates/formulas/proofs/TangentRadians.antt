@@ -14,7 +14,7 @@ use Rattle.circle.specs.Circle.{exact_sine, exact_cosine, Alike}
 use Rattle.circle.proofs.Mirror.{sine-at-most-one, cosine-at-most-one}
 use Rattle.reducers.specs.Reduce.{reduce}
 use Rattle.reducers.specs.Exact.{field, radian_steps, mod_turn}
-use Rattle.reducers.proofs.Turns.{mod_turn-lt}
+use Rattle.reducers.proofs.Turns.{mod_turn_lt}
 use Rattle.reducers.proofs.Reading.{radian-reads}
 use Rattle.reducers.proofs.Radian.{radian}
 use Rattle.table.specs.Tangents.{tangent64}
@@ -143,7 +143,7 @@ module _ (w : ℕ) (W : w < 2 ^ 32) (F : field w < 255) where
       let r = reduce x s in
       let R = radian-reads w N in
       let e = tanf-far x (subst (λ z. 0x3dc90fdb < z) (sym S) k) (subst (λ z. z < infinite) (sym S) l) ∙ ap (λ b. narrowed (tangent_at (reduce x b))) S in
-      subst Tangent (sym e) (by-table r.0 (mod_turn r.1) (radian_steps x) R.0 (mod_turn-lt r.1) R.1 (λ o. (radian w N).apart (quarter-sign r.1 o)))
+      subst Tangent (sym e) (by-table r.0 (mod_turn r.1) (radian_steps x) R.0 (mod_turn_lt r.1) R.1 (λ o. (radian w N).apart (quarter-sign r.1 o)))
     where
       clash : field w ≡ 255 → ⊥
       clash e = omega arith

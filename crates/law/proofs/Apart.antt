@@ -16,9 +16,9 @@ use Rattle.sheets.specs.Rows.{samples, among, distinct}
 use Rattle.sheets.specs.Book.{given, standing_after}
 use Rattle.sheets.specs.Sheets.{InAnyOrder}
 use Rattle.sheets.proofs.Orders.{distinct-order}
-use Rattle.sheets.proofs.Sums.{sum_by-order}
+use Rattle.sheets.proofs.Sums.{sum_by_order}
 use Rattle.law.specs.Law.{plain, cms, of_steps, sum_f, exact_total, Agree, Matched, SameMotion}
-use Rattle.law.proofs.Sums.{sum_f-order, times-apart, add_apart, none_apart}
+use Rattle.law.proofs.Sums.{sum_f_order, times-apart, add_apart, none_apart}
 
 -- ---- one row
 scale-size : Size (whole (2 ^ 30)) (whole (2 ^ 30))
@@ -126,8 +126,8 @@ books_apart f steady one other (x ∷ xs) fs d d' m m' =
     subst (λ n. Within (F x) (whole n ⊗ (whole (2 ^ 30) ⊗ of_steps f (other y.word))) (whole (805 * x.speed))) (sym r.3)
     (times-apart 805 x.speed (whole (2 ^ 30) ⊗ of_steps f (one x.word)) (whole (2 ^ 30) ⊗ of_steps f (other y.word)) (agree-apart f steady (one x.word) (other y.word) r.4)) in
     let b = add_apart 805 x.speed (cms xs) (cms (x ∷ xs)) (F x) (G y) (sum_f F xs) (sum_f G ys) (sum_by-cons (λ (e : Entry). e.speed) x xs) a ih.1 in (
-      sum_by-order (λ (e : Entry). e.speed) o.1 ∙ sum_by-cons (λ (e : Entry). e.speed) y ys ∙ ap (λ n. n + cms ys) r.3 ∙ ap (λ n. x.speed + n) ih.0 ∙ sym (sum_by-cons (λ (e : Entry). e.speed) x xs),
-      within-≈ (≈-refl (sum_f F (x ∷ xs))) (≈-sym (sum_f-order G o.1)) b,
+      sum_by_order (λ (e : Entry). e.speed) o.1 ∙ sum_by-cons (λ (e : Entry). e.speed) y ys ∙ ap (λ n. n + cms ys) r.3 ∙ ap (λ n. x.speed + n) ih.0 ∙ sym (sum_by-cons (λ (e : Entry). e.speed) x xs),
+      within-≈ (≈-refl (sum_f F (x ∷ xs))) (≈-sym (sum_f_order G o.1)) b,
     )
 
 -- ---- the totals: 33 + 805 + 33

@@ -19,10 +19,10 @@ use Rattle.sheets.specs.Book.{standing_after}
 use Rattle.sheets.specs.Rows.{speed_of, along_of, across_of}
 use Rattle.sheets.specs.Runs.{filled, Grown}
 use Rattle.sheets.specs.Sheets.{InAnyOrder, read_sine, read_cosine}
-use Rattle.sheets.proofs.Sums.{length-order, all-order, sum_by-order, folded-order}
+use Rattle.sheets.proofs.Sums.{length-order, all-order, sum_by_order, folded-order}
 use Rattle.law.specs.Law.{plain, cms, of_steps, sum_f, exact_total, Shared, Holds}
 use Rattle.law.proofs.Books.{Angled, standing-angled}
-use Rattle.law.proofs.Sums.{sum_f-map, sum_by-map, folded-sum_f, int-times, times-apart, sums_apart}
+use Rattle.law.proofs.Sums.{sum_f_map, sum_by_map, folded_sum_f, int-times, times-apart, sums_apart}
 
 -- ---- one row
 nothing-near : Within (integer (pos 0)) (whole (2 ^ 30) ⊗ whole 0) (whole 33)
@@ -76,7 +76,7 @@ module _ (steps : ℕ → Steps) (answer : ℕ → Reading) (keeps : (w : ℕ) �
         let F : Row → ℤ = λ r. pos r.speed *ℤ part r in
         let a : total ≡ fold (λ a r. a +ℤ F r) (pos 0) (map (filled answer) book) = e ∙ folded-order F (pos 0) g.order in
         let b : integer total ≈ sum_f (λ e. integer (pos e.speed *ℤ share (answer e.word))) book =
-        ≈-trans (≡-≈ (ap integer a)) (≈-trans (folded-sum_f F (map (filled answer) book)) (≈-trans (sum_f-map (λ r. integer (F r)) (filled answer) book) (each book))) in
+        ≈-trans (≡-≈ (ap integer a)) (≈-trans (folded_sum_f F (map (filled answer) book)) (≈-trans (sum_f_map (λ r. integer (F r)) (filled answer) book) (each book))) in
         within-≈ (≈-sym b) (≈-refl (exact_total f steps book)) (sums_apart 33 (λ (e : Entry). e.speed) _ _ book (parts-near book g.words))
       where
         each : (es : List Entry) → sum_f (λ e. integer (pos e.speed *ℤ part (filled answer e))) es ≈ sum_f (λ e. integer (pos e.speed *ℤ share (answer e.word))) es
@@ -91,7 +91,7 @@ module _ (steps : ℕ → Steps) (answer : ℕ → Reading) (keeps : (w : ℕ) �
       record {
         order = o;
         count = sym (length-map rows plain) ∙ length-order o;
-        speed = s ∙ sym (sum_by-map (λ (e : Entry). e.speed) plain rows) ∙ sum_by-order (λ (e : Entry). e.speed) o;
+        speed = s ∙ sym (sum_by_map (λ (e : Entry). e.speed) plain rows) ∙ sum_by_order (λ (e : Entry). e.speed) o;
         shares = all-order (Shared answer) (Permᴰ.symm g.order) (shared-all book g.words (standing-angled steps calls));
         along = total-near exact_cosine read_cosine cosine-kept (λ r. r.cosine) (λ e. refl) rows book totals.along g a;
         across = total-near exact_sine read_sine sine-kept (λ r. r.sine) (λ e. refl) rows book totals.across g c;

@@ -13,19 +13,19 @@ use Rattle.law.specs.Law.{sum_f}
 ⊕-swap : (a b c : Fraction) → a ⊕ (b ⊕ c) ≈ b ⊕ (a ⊕ c)
 ⊕-swap a b c = ≈-trans (≈-sym (⊕-assoc a b c)) (≈-trans (⊕-cong (⊕-comm a b) (≈-refl c)) (⊕-assoc b a c))
 
-pub sum_f-order : {X : Type 0} (f : X → Fraction) {xs ys : List X} → InAnyOrder xs ys → sum_f f xs ≈ sum_f f ys
-sum_f-order f Permᴰ.nil = ≈-refl (whole 0)
-sum_f-order f (Permᴰ.cons e d) = ⊕-cong (≡-≈ (ap f e)) (sum_f-order f d)
-sum_f-order f (Permᴰ.swap {a = a} {b = b} {l = l} e g) = ≈-trans (⊕-swap (f a) (f b) (sum_f f l)) (⊕-cong (≡-≈ (ap f g)) (⊕-cong (≡-≈ (ap f e)) (≈-refl (sum_f f l))))
-sum_f-order f (Permᴰ.trans d e) = ≈-trans (sum_f-order f d) (sum_f-order f e)
+pub sum_f_order : {X : Type 0} (f : X → Fraction) {xs ys : List X} → InAnyOrder xs ys → sum_f f xs ≈ sum_f f ys
+sum_f_order f Permᴰ.nil = ≈-refl (whole 0)
+sum_f_order f (Permᴰ.cons e d) = ⊕-cong (≡-≈ (ap f e)) (sum_f_order f d)
+sum_f_order f (Permᴰ.swap {a = a} {b = b} {l = l} e g) = ≈-trans (⊕-swap (f a) (f b) (sum_f f l)) (⊕-cong (≡-≈ (ap f g)) (⊕-cong (≡-≈ (ap f e)) (≈-refl (sum_f f l))))
+sum_f_order f (Permᴰ.trans d e) = ≈-trans (sum_f_order f d) (sum_f_order f e)
 
-pub sum_f-map : {X Y : Type 0} (f : Y → Fraction) (g : X → Y) (xs : List X) → sum_f f (map g xs) ≈ sum_f (λ x. f (g x)) xs
-sum_f-map f g [] = ≈-refl (whole 0)
-sum_f-map f g (x ∷ xs) = ⊕-cong (≈-refl (f (g x))) (sum_f-map f g xs)
+pub sum_f_map : {X Y : Type 0} (f : Y → Fraction) (g : X → Y) (xs : List X) → sum_f f (map g xs) ≈ sum_f (λ x. f (g x)) xs
+sum_f_map f g [] = ≈-refl (whole 0)
+sum_f_map f g (x ∷ xs) = ⊕-cong (≈-refl (f (g x))) (sum_f_map f g xs)
 
-pub sum_by-map : {X Y : Type 0} (f : Y → ℕ) (g : X → Y) (xs : List X) → sum_by f (map g xs) ≡ sum_by (λ x. f (g x)) xs
-sum_by-map f g [] = refl
-sum_by-map f g (x ∷ xs) = sum_by-cons f (g x) (map g xs) ∙ ap (λ n. f (g x) + n) (sum_by-map f g xs) ∙ sym (sum_by-cons (λ x. f (g x)) x xs)
+pub sum_by_map : {X Y : Type 0} (f : Y → ℕ) (g : X → Y) (xs : List X) → sum_by f (map g xs) ≡ sum_by (λ x. f (g x)) xs
+sum_by_map f g [] = refl
+sum_by_map f g (x ∷ xs) = sum_by-cons f (g x) (map g xs) ∙ ap (λ n. f (g x) + n) (sum_by_map f g xs) ∙ sym (sum_by-cons (λ x. f (g x)) x xs)
 
 -- ---- sums of whole numbers with their signs
 folded_from : {X : Type 0} (f : X → ℤ) (z : ℤ) (xs : List X) → integer (fold (λ a x. a +ℤ f x) z xs) ≈ integer z ⊕ sum_f (λ x. integer (f x)) xs
@@ -34,8 +34,8 @@ folded_from f z (x ∷ xs) =
     let s : Fraction = sum_f (λ x. integer (f x)) xs in
     ≈-trans (folded_from f (z +ℤ f x) xs) (≈-trans (⊕-cong (int-add z (f x)) (≈-refl s)) (⊕-assoc (integer z) (integer (f x)) s))
 
-pub folded-sum_f : {X : Type 0} (f : X → ℤ) (xs : List X) → integer (fold (λ a x. a +ℤ f x) (pos 0) xs) ≈ sum_f (λ x. integer (f x)) xs
-folded-sum_f f xs = ≈-trans (folded_from f (pos 0) xs) (zero-⊕ (sum_f (λ x. integer (f x)) xs))
+pub folded_sum_f : {X : Type 0} (f : X → ℤ) (xs : List X) → integer (fold (λ a x. a +ℤ f x) (pos 0) xs) ≈ sum_f (λ x. integer (f x)) xs
+folded_sum_f f xs = ≈-trans (folded_from f (pos 0) xs) (zero-⊕ (sum_f (λ x. integer (f x)) xs))
 
 int-neg : (n : ℕ) → integer (neg_ℤ (pos n)) ≈ neg (whole n)
 int-neg zero = record { eq = refl }

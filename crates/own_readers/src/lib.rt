@@ -4,7 +4,6 @@
 ghost use Rattle.own_readers.specs.Own.{whole_steps, whole_answer};
 ghost use Rattle.readers.specs.declared.reader.ReaderFault.TheVariants.{NoAngle};
 ghost use Rattle.std.specs.Prelude.{None, Err};
-ghost use Rattle.std.proofs.Common.{rules};
 ghost use Rattle.own_readers.specs.OwnLemmas.{whole-keeps};
 
 use readers::reader::{Reader, ReaderFault};
@@ -21,7 +20,7 @@ impl Reader for Blind {
 
     ghost answer = { λ _ _. Err NoAngle };
 
-    ghost meaning = { Prim.search rules };
+    ghost meaning = { λ r w h. tt };
 
     fn read(&self, _word: u32) -> Result<(u8, f64), ReaderFault> {
         Err(ReaderFault::NoAngle)

@@ -9,7 +9,7 @@ use Rattle.exact.proofs.Order.{by-test, within-⊑}
 use Rattle.circle.specs.Circle.{Alike}
 use Rattle.reducers.specs.Reduce.{reduce, reduce_pi}
 use Rattle.reducers.specs.Exact.{field, radian_steps}
-use Rattle.reducers.proofs.Turns.{mod_turn-lt}
+use Rattle.reducers.proofs.Turns.{mod_turn_lt}
 use Rattle.reducers.proofs.Reading.{radian-reads, half-turns-read, whole-turns-read}
 use Rattle.readers.specs.declared.reader.ReaderFault.TheVariants.{NoAngle}
 use Rattle.readers.specs.Meaning.{Reading, Answers, Keeps}
@@ -34,11 +34,11 @@ either false u p q f g = g refl
 pub radian-keeps : (w : ℕ) → Keeps (radian_meaning w) (radian_answer w)
 radian-keeps w =
     read-unless (field w == 255) (radian_steps (from_bits binary32 w)) (turned (reduce (from_bits binary32 w) (w % 2147483648)))
-    (λ e. answers _ _ _ (mod_turn-lt _) (radian-reads w (eqb-false (field w) 255 e)))
+    (λ e. answers _ _ _ (mod_turn_lt _) (radian-reads w (eqb-false (field w) 255 e)))
 
 pub half-turn-keeps : (w : ℕ) → Keeps (half_turn_meaning w) (half_turn_answer w)
 half-turn-keeps w =
     read-unless (field w == 255) (whole 32 ⊗ value_of (from_bits binary32 w)) (cond (nat_lt (w % 2147483648) 1266679808) (turned (reduce_pi (from_bits binary32 w))) (Ok (0, from_bits binary64 0)))
     (λ e. either (nat_lt (w % 2147483648) 1266679808) (whole 32 ⊗ value_of (from_bits binary32 w)) (turned (reduce_pi (from_bits binary32 w))) (Ok (0, from_bits binary64 0))
-    (λ t. answers _ _ _ (mod_turn-lt _) (half-turns-read w 1024 (eqb-false (field w) 255 e) (ltb-true _ _ t)))
+    (λ t. answers _ _ _ (mod_turn_lt _) (half-turns-read w 1024 (eqb-false (field w) 255 e) (ltb-true _ _ t)))
     (λ t. answers _ _ _ (omega arith) (whole-turns-read w 1024 (eqb-false (field w) 255 e) (ltb-false _ _ t))))

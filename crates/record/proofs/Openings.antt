@@ -7,7 +7,7 @@ use Rattle.sheets.specs.declared.book.Entry.{Entry}
 use Rattle.sheets.specs.declared.row.Row.{Row}
 use Rattle.sheets.specs.Rows.{speed_of, along_of, across_of}
 use Rattle.sheets.specs.Runs.{filled}
-use Rattle.sheets.proofs.Sums.{length-order, sum_by-order, folded-order}
+use Rattle.sheets.proofs.Sums.{length-order, sum_by_order, folded-order}
 use Rattle.record.specs.declared.edition.Edition.{Edition}
 use Rattle.record.specs.declared.edition.Mount.{Mount}
 use Rattle.record.specs.declared.fault.Cause.{Cause}
@@ -79,7 +79,7 @@ tally-made answer rows (Err g) e n s a b h p q r t = absurd h
 tally-made answer rows (Ok book) e n s a b h p q r t =
     ap Ok (tally-is e n (length book) s (speed_of (map (filled answer) book)) a (along_of (map (filled answer) book)) b (across_of (map (filled answer) book))
     (p ∙ length-order h.order ∙ length-map book (filled answer))
-    (q ∙ sum_by-order (λ (r : Row). r.speed) h.order)
+    (q ∙ sum_by_order (λ (r : Row). r.speed) h.order)
     (r ∙ folded-order (λ (r : Row). pos r.speed *ℤ r.cosine) (pos 0) h.order)
     (t ∙ folded-order (λ (r : Row). pos r.speed *ℤ r.sine) (pos 0) h.order))
 

@@ -65,21 +65,21 @@ pi x p h z =
     }
 
 -- ---- quarter turns
-minus_half-is : value_of minus_half ≈ neg (frac 1 2)
+minus_half_is : value_of minus_half ≈ neg (frac 1 2)
 unfolding negate of_bits of_fields odd count_trailing_zeros size
-minus_half-is = record { eq = refl }
+minus_half_is = record { eq = refl }
 
-minus_half-grid : Multiple (value_of minus_half) (pw 0 1)
+minus_half_grid : Multiple (value_of minus_half) (pw 0 1)
 unfolding negate of_bits of_fields odd count_trailing_zeros size
-minus_half-grid = record { p = 0; m = 1; is = record { eq = refl } }
+minus_half_grid = record { p = 0; m = 1; is = record { eq = refl } }
 
-minus_half-size : Size (value_of minus_half) (pw 0 1)
+minus_half_size : Size (value_of minus_half) (pw 0 1)
 unfolding negate of_bits of_fields odd count_trailing_zeros size size_test
-minus_half-size = size-by-test (value_of minus_half) (pw 0 1) tt
+minus_half_size = size-by-test (value_of minus_half) (pw 0 1) tt
 
-minus_half-finite : T (finite minus_half)
+minus_half_finite : T (finite minus_half)
 unfolding negate of_bits of_fields odd count_trailing_zeros size
-minus_half-finite = tt
+minus_half_finite = tt
 
 double : (X : Fraction) → X ⊕ X ≈ X ⊗ whole 2
 unfolding same
@@ -121,9 +121,9 @@ quarter x p h z =
     let S : Size (value_of k) (whole (2 ^ 57 - 1)) = size-⊑ (by-test {a = pw 23 0 ⊗ pw 1 0 ⊕ frac 1 2} {b = whole (2 ^ 57 - 1)} tt) SK in
     let A : integer (count k) ≈ value_of k = cast-exact 63 (2 ^ 57 - 1) k K.fin K.integral S (lit< tt) in
     let m = mul binary64 k minus_half in
-    let MG : Multiple (value_of k ⊗ C) (pw 0 1) = multiple-unit (≈-trans (pw-mul 0 0 0 1) (pw-same 0 (0 + 1) 0 1 refl)) (multiple-⊗ (multiple-unit one-pw K.integral) minus_half-grid) in
-    let M : Same m (value_of k ⊗ C) = exact-at binary64 m (value_of k ⊗ C) 0 1 1073 refl (mul-rounded binary64 k minus_half K.fin minus_half-finite) MG (size-⊑ (by-test {a = (pw 23 0 ⊗ pw 1 0 ⊕ frac 1 2) ⊗ pw 0 1} {b = pw 53 1} tt) (size-⊗ SK minus_half-size)) (lit< tt) in
-    let Y : value_of m ⊕ X ≈ (value_of d ⊖ value_of k) ⊗ frac 1 2 = ≈-trans (⊕-cong (≈-trans M.is (⊗-cong (≈-refl (value_of k)) minus_half-is)) (≈-refl X)) (≈-trans (halved X (value_of k)) (⊗-cong (⊕-cong (≈-sym D.is) (≈-refl (neg (value_of k)))) (≈-refl (frac 1 2)))) in
+    let MG : Multiple (value_of k ⊗ C) (pw 0 1) = multiple-unit (≈-trans (pw-mul 0 0 0 1) (pw-same 0 (0 + 1) 0 1 refl)) (multiple-⊗ (multiple-unit one-pw K.integral) minus_half_grid) in
+    let M : Same m (value_of k ⊗ C) = exact-at binary64 m (value_of k ⊗ C) 0 1 1073 refl (mul-rounded binary64 k minus_half K.fin minus_half_finite) MG (size-⊑ (by-test {a = (pw 23 0 ⊗ pw 1 0 ⊕ frac 1 2) ⊗ pw 0 1} {b = pw 53 1} tt) (size-⊗ SK minus_half_size)) (lit< tt) in
+    let Y : value_of m ⊕ X ≈ (value_of d ⊖ value_of k) ⊗ frac 1 2 = ≈-trans (⊕-cong (≈-trans M.is (⊗-cong (≈-refl (value_of k)) minus_half_is)) (≈-refl X)) (≈-trans (halved X (value_of k)) (⊗-cong (⊕-cong (≈-sym D.is) (≈-refl (neg (value_of k)))) (≈-refl (frac 1 2)))) in
     let small : Size (value_of m ⊕ X) (frac 1 2 ⊗ pw 0 1) = size-≈ (≈-sym Y) (size-⊗ (away-small K) half-size) in
     let R = add-rounded binary64 m x M.fin p in
     let MM : Multiple (value_of m) (pw 0 1) = multiple-≈ (≈-sym M.is) MG in
@@ -135,7 +135,7 @@ quarter x p h z =
     record {
       fin = y.fin;
       small = size-≈ (≈-sym y.is) (size-⊑ (by-test {a = frac 1 2 ⊗ pw 0 1} {b = frac 1 4} tt) small);
-      exact = ≈-trans y.is (≈-trans (⊕-cong (≈-trans M.is (⊗-cong (≈-refl (value_of k)) minus_half-is)) (≈-refl X)) (≈-trans (less-half X (value_of k)) (⊕-cong (≈-refl X) (neg_cong (⊗-cong (≈-sym A) (≈-refl (frac 1 2)))))));
+      exact = ≈-trans y.is (≈-trans (⊕-cong (≈-trans M.is (⊗-cong (≈-refl (value_of k)) minus_half_is)) (≈-refl X)) (≈-trans (less-half X (value_of k)) (⊕-cong (≈-refl X) (neg_cong (⊗-cong (≈-sym A) (≈-refl (frac 1 2)))))));
     }
   where
     back : (q : ℕ) → (pw (q + 53) 1074 ⊗ pw 1 0) ⊗ pw 0 1 ≈ pw (q + 53) 1074

@@ -14,7 +14,7 @@ use Rattle.reducers.specs.Reduce.{reduce, reduce_pi}
 use Rattle.reducers.specs.Exact.{field, radian_steps, mod_turn, Reduced, PiReduced}
 use Rattle.reducers.proofs.HalfTurns.{pi}
 use Rattle.reducers.proofs.Radian.{radian, word_of, whole-turns}
-use Rattle.reducers.proofs.Turns.{turns-alike, mod_turn-alike}
+use Rattle.reducers.proofs.Turns.{turns-alike, mod_turn_alike}
 
 -- ---- radians
 enough : tiny 52 ⊑ whole 1024 ⊗ tiny 60
@@ -22,7 +22,7 @@ unfolding leq
 enough = by-test tt
 
 pub reduced-reads : (w : ℕ) (y : Float) (k : ℤ) → Reduced w y k → Held y (frac 3 4) × Alike (whole (mod_turn k) ⊕ value_of y) (radian_steps (of_bits binary32 w)) (whole 1024 ⊗ tiny 60)
-reduced-reads w y k R = (record { fin = R.fin; size = smaller-size (value_of y) (frac 3 4) R.small }, mod_turn-alike k (value_of y) (radian_steps (of_bits binary32 w)) R.turns (whole 1024 ⊗ tiny 60) (within-⊑ enough R.near))
+reduced-reads w y k R = (record { fin = R.fin; size = smaller-size (value_of y) (frac 3 4) R.small }, mod_turn_alike k (value_of y) (radian_steps (of_bits binary32 w)) R.turns (whole 1024 ⊗ tiny 60) (within-⊑ enough R.near))
 
 -- every finite word
 pub radian-reads : (w : ℕ) → field w ≢ 255 →
@@ -39,7 +39,7 @@ no-turn a = ≈-trans (⊕-cong (≈-refl a) (zero-⊗ (whole 64))) (⊕-zero a)
 
 pub pi-reduced-reads : (x y : Float) (k : ℤ) (g : ℕ) → PiReduced x y k → Held y (frac 3 4) × Alike (whole (mod_turn k) ⊕ value_of y) (whole 32 ⊗ value_of x) (whole g ⊗ tiny 60)
 unfolding leq
-pi-reduced-reads x y k g R = (record { fin = R.fin; size = size-⊑ (by-test tt) R.small }, mod_turn-alike k (value_of y) (whole 32 ⊗ value_of x) (pos 0) (whole g ⊗ tiny 60) (within-⊑ (unhurt g) (within-refl (≈-trans (no-turn (integer k ⊕ value_of y)) R.exact))))
+pi-reduced-reads x y k g R = (record { fin = R.fin; size = size-⊑ (by-test tt) R.small }, mod_turn_alike k (value_of y) (whole 32 ⊗ value_of x) (pos 0) (whole g ⊗ tiny 60) (within-⊑ (unhurt g) (within-refl (≈-trans (no-turn (integer k ⊕ value_of y)) R.exact))))
 
 -- below 2 ^ 24
 pub half-turns-read : (w g : ℕ) → field w ≢ 255 → w % 2147483648 < 1266679808 →

@@ -12,14 +12,14 @@ use Rattle.circle.specs.Circle.{Alike}
 use Rattle.reducers.specs.Exact.{mod_turn}
 
 -- ---- k modulo 64
-pub mod_turn-lt : (k : ℤ) → mod_turn k < 64
-mod_turn-lt (pos n) = omega arith
-mod_turn-lt (negsuc n) = omega arith
+pub mod_turn_lt : (k : ℤ) → mod_turn k < 64
+mod_turn_lt (pos n) = omega arith
+mod_turn_lt (negsuc n) = omega arith
 
 -- k is that, but for whole turns
-pub mod_turn-turns : (k : ℤ) → Multiple (integer k ⊖ whole (mod_turn k)) (whole 64)
-mod_turn-turns (pos n) = record { p = n / 64; m = 0; is = record { eq = omega arith } }
-mod_turn-turns (negsuc n) = record { p = 0; m = n / 64 + 1; is = record { eq = omega arith } }
+pub mod_turn_turns : (k : ℤ) → Multiple (integer k ⊖ whole (mod_turn k)) (whole 64)
+mod_turn_turns (pos n) = record { p = n / 64; m = 0; is = record { eq = omega arith } }
+mod_turn_turns (negsuc n) = record { p = 0; m = n / 64 + 1; is = record { eq = omega arith } }
 
 -- ---- whole turns more or less
 dif-is : (p m : ℕ) → dif p m ≈ whole p ⊖ whole m
@@ -43,8 +43,8 @@ regroup : (r y k t : Fraction) → (k ⊕ y) ⊕ t ≈ (r ⊕ y) ⊕ ((k ⊖ r) 
 unfolding same
 regroup r y k t = ring (free r ∷ free y ∷ free k ∷ free t ∷ []) ((var 2 :+ var 1) :+ var 3) ((var 0 :+ var 1) :+ ((var 2 :- var 0) :+ var 3)) tt
 
-pub mod_turn-alike : (k : ℤ) (y u : Fraction) (n : ℤ) (c : Fraction) → Within ((integer k ⊕ y) ⊕ integer n ⊗ whole 64) u c → Alike (whole (mod_turn k) ⊕ y) u c
-mod_turn-alike k y u n c h =
+pub mod_turn_alike : (k : ℤ) (y u : Fraction) (n : ℤ) (c : Fraction) → Within ((integer k ⊕ y) ⊕ integer n ⊗ whole 64) u c → Alike (whole (mod_turn k) ⊕ y) u c
+mod_turn_alike k y u n c h =
     let r = whole (mod_turn k) in
     let t = integer n ⊗ whole 64 in
-    turns-alike (r ⊕ y) u c ((integer k ⊖ r) ⊕ t) (multiple-⊕ (mod_turn-turns k) (int-multiple n (whole 64))) (within-≈ (regroup r y (integer k) t) (≈-refl u) h)
+    turns-alike (r ⊕ y) u c ((integer k ⊖ r) ⊕ t) (multiple-⊕ (mod_turn_turns k) (int-multiple n (whole 64))) (within-≈ (regroup r y (integer k) t) (≈-refl u) h)

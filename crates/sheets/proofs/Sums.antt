@@ -18,11 +18,11 @@ all-order P (Permᴰ.cons e d) h = (subst P e h.0, all-order P d h.1)
 all-order P (Permᴰ.swap e f) h = (subst P f h.1.0, (subst P e h.0, h.1.1))
 all-order P (Permᴰ.trans d e) h = all-order P e (all-order P d h)
 
-pub sum_by-order : {X : Type 0} (f : X → ℕ) {xs ys : List X} → InAnyOrder xs ys → sum_by f xs ≡ sum_by f ys
-sum_by-order f Permᴰ.nil = refl
-sum_by-order f (Permᴰ.cons {a = a} {b = b} {l₁ = l₁} {l₂ = l₂} e d) = omega (arith, sum_by-cons f a l₁, sum_by-cons f b l₂, ap f e, sum_by-order f d)
-sum_by-order f (Permᴰ.swap {a = a} {b = b} {a' = a'} {b' = b'} {l = l} e g) = omega (arith, sum_by-cons f a (b ∷ l), sum_by-cons f b l, sum_by-cons f a' (b' ∷ l), sum_by-cons f b' l, ap f e, ap f g)
-sum_by-order f (Permᴰ.trans d e) = sum_by-order f d ∙ sum_by-order f e
+pub sum_by_order : {X : Type 0} (f : X → ℕ) {xs ys : List X} → InAnyOrder xs ys → sum_by f xs ≡ sum_by f ys
+sum_by_order f Permᴰ.nil = refl
+sum_by_order f (Permᴰ.cons {a = a} {b = b} {l₁ = l₁} {l₂ = l₂} e d) = omega (arith, sum_by-cons f a l₁, sum_by-cons f b l₂, ap f e, sum_by_order f d)
+sum_by_order f (Permᴰ.swap {a = a} {b = b} {a' = a'} {b' = b'} {l = l} e g) = omega (arith, sum_by-cons f a (b ∷ l), sum_by-cons f b l, sum_by-cons f a' (b' ∷ l), sum_by-cons f b' l, ap f e, ap f g)
+sum_by_order f (Permᴰ.trans d e) = sum_by_order f d ∙ sum_by_order f e
 
 plus-swap : (a b c : ℤ) → (a +ℤ b) +ℤ c ≡ (a +ℤ c) +ℤ b
 plus-swap a b c = omega (arith, ints)
