@@ -6,6 +6,7 @@ usage: python3 tools/respell.py   once, at the top, after the port.py of the kit
 Beside it lies respell.txt, a line for each name: old and new. A name is a whole word of antt, so that no part of a longer one changes.
 It turns specs/, proofs/, the clauses of src/ and the texts of must-fail/. Functions of src/, exported names, strings and outputs keep theirs.
 It also renames the module `table` of the crate sheets, since the library `table` has that name.
+Of a .rt file all but comments and texts in quotes is gone through. At the end it runs `rt fmt` in each crate.
 """
 
 import os

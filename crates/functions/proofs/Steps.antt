@@ -14,5 +14,5 @@ pub by-step : (f : Float → ℕ → Float) (q r : Float × ℤ) (k : ℕ) (v : 
 by-step f q r k v e h g = g ∙ ap (λ z. f r.0 z) (ap (λ z. z % 64) h ∙ step_small r.1) ∙ ap (λ z. f z.0 (mod_turn z.1)) e
 
 -- below the bound the small pass is the reducer
-pub small-pass : (x : Float) (b : ℕ) → b < 1249902592 → reduce_small x ≡ reduce x b
-small-pass x b h = sym (cond-true (ltb b 1249902592) (reduce_small x) (reduce_large x (exponent_of b)) (lt-ltb b 1249902592 h))
+pub small_pass : (x : Float) (b : ℕ) → b < 1249902592 → reduce_small x ≡ reduce x b
+small_pass x b h = sym (cond-true (ltb b 1249902592) (reduce_small x) (reduce_large x (exponent_of b)) (lt-ltb b 1249902592 h))

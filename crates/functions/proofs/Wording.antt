@@ -30,21 +30,21 @@ pub size_is : (w : ℕ) → w < 2 ^ 32 → w % 2 ^ 31 < infinite → size_bits (
 size_is w l h = ap (λ z. z % 2 ^ 31) (back w l h)
 
 -- infinities and NaNs
-nan-only : (x : Float) → is_nan x ≡ true → x ≡ nan
+nan_only : (x : Float) → is_nan x ≡ true → x ≡ nan
 unfolding is_nan
-nan-only nan h = refl
-nan-only (inf s) h = absurd (subst (λ b. T (not b)) h tt)
-nan-only (fin s m e) h = absurd (subst (λ b. T (not b)) h tt)
+nan_only nan h = refl
+nan_only (inf s) h = absurd (subst (λ b. T (not b)) h tt)
+nan_only (fin s m e) h = absurd (subst (λ b. T (not b)) h tt)
 
-nan-size : infinite ≤ size_bits nan
+nan_size : infinite ≤ size_bits nan
 unfolding to_bits
-nan-size = lib.Dec.lit≤ tt
+nan_size = lib.Dec.lit≤ tt
 
 pub size_not_finite : (w : ℕ) → w < 2 ^ 32 → infinite ≤ w % 2 ^ 31 → infinite ≤ size_bits (of_bits binary32 w)
 size_not_finite w l h = go (of_bits binary32 w) (is_nan (of_bits binary32 w)) refl refl
   where
     go : (x : Float) (t : Bool) → x ≡ of_bits binary32 w → is_nan x ≡ t → infinite ≤ size_bits x
-    go x true e n = subst (λ z. infinite ≤ size_bits z) (sym (nan-only x n)) nan-size
+    go x true e n = subst (λ z. infinite ≤ size_bits z) (sym (nan_only x n)) nan_size
     go x false e n = subst (λ z. infinite ≤ z % 2 ^ 31) (sym (ap (to_bits binary32) e ∙ to_bits-of_bits binary32 w l (subst (λ b. T (not b)) (sym n ∙ ap is_nan e) tt))) h
 
 -- ---- zeros
@@ -62,8 +62,8 @@ minus_one : neg (of_bits binary32 0x3f800000) ≡ of_bits binary32 0xbf800000
 unfolding neg of_bits of_fields odd count_trailing_zeros
 minus_one = refl
 
-pub minus-one-word : ◌≡◌ {A = ℕ} 3212836864 (to_bits binary32 (neg (of_bits binary32 0x3f800000)))
-minus-one-word = sym (ap (to_bits binary32) minus_one ∙ back 0xbf800000 (lib.Dec.lit< tt) (lib.Dec.lit< tt))
+pub minus_one_word : ◌≡◌ {A = ℕ} 3212836864 (to_bits binary32 (neg (of_bits binary32 0x3f800000)))
+minus_one_word = sym (ap (to_bits binary32) minus_one ∙ back 0xbf800000 (lib.Dec.lit< tt) (lib.Dec.lit< tt))
 
 -- ---- what the six answer fits, by the ways through their definitions
 nearest-fits : (f : Format) (x : Float) → T (fits f (round_to_format f x))
@@ -72,12 +72,12 @@ nearest-fits f nan = nan-fits f
 nearest-fits f (inf s) = inf-fits f s
 nearest-fits f (fin s m e) = round-fits f s (m * up e) (down e)
 
-by-line : (a b c d : Bool) (x p q r : Float) → T (fits binary32 x) → T (fits binary32 (cond a (cond b (cond c x (narrowed p)) (narrowed q)) (cond d nan (narrowed r))))
-by-line true true true d x p q r h = h
-by-line true true false d x p q r h = nearest-fits binary32 p
-by-line true false c d x p q r h = nearest-fits binary32 q
-by-line false b c true x p q r h = nan-fits binary32
-by-line false b c false x p q r h = nearest-fits binary32 r
+by_line : (a b c d : Bool) (x p q r : Float) → T (fits binary32 x) → T (fits binary32 (cond a (cond b (cond c x (narrowed p)) (narrowed q)) (cond d nan (narrowed r))))
+by_line true true true d x p q r h = h
+by_line true true false d x p q r h = nearest-fits binary32 p
+by_line true false c d x p q r h = nearest-fits binary32 q
+by_line false b c true x p q r h = nan-fits binary32
+by_line false b c false x p q r h = nearest-fits binary32 r
 
 by_two : (a b d : Bool) (p q r : Float) → T (fits binary32 r) → T (fits binary32 (cond a (cond b (narrowed p) (narrowed q)) (cond d nan r)))
 by_two true true d p q r h = nearest-fits binary32 p
@@ -98,7 +98,7 @@ either = cond-fits binary32
 
 sinf-fits : (x : Float) → T (fits binary32 x) → T (fits binary32 (sinf x))
 unfolding sinf
-sinf-fits x h = by-line (leb (size_bits x) 0x3e490fdb) (ltb (size_bits x) 0x39e89769) (eqb (size_bits x) 0) (leb infinite (size_bits x)) x (fmla x minus_tiny x) (sin_near x) (sine_at (reduce x (size_bits x))) h
+sinf-fits x h = by_line (leb (size_bits x) 0x3e490fdb) (ltb (size_bits x) 0x39e89769) (eqb (size_bits x) 0) (leb infinite (size_bits x)) x (fmla x minus_tiny x) (sin_near x) (sine_at (reduce x (size_bits x))) h
 
 cosf-fits : (x : Float) → T (fits binary32 x) → T (fits binary32 (cosf x))
 unfolding cos_of
@@ -109,7 +109,7 @@ cosf-fits x h =
 
 tanf-fits : (x : Float) → T (fits binary32 x) → T (fits binary32 (tanf x))
 unfolding tanf
-tanf-fits x h = by-line (leb (size_bits x) 0x3dc90fdb) (ltb (size_bits x) 0x39800000) (eqb (size_bits x) 0) (leb infinite (size_bits x)) x (fmla x minus_tiny x) (tan_near x) (tangent_at (reduce x (size_bits x))) h
+tanf-fits x h = by_line (leb (size_bits x) 0x3dc90fdb) (ltb (size_bits x) 0x39800000) (eqb (size_bits x) 0) (leb infinite (size_bits x)) x (fmla x minus_tiny x) (tan_near x) (tangent_at (reduce x (size_bits x))) h
 
 with-fits : (t : Bool) (x : Float) → T (fits binary32 x) → T (fits binary32 (float_with_sign t x))
 unfolding float_with_sign fits

@@ -33,7 +33,7 @@ fn tan_by_table(x: f64, x_abs: u32) -> f64
     ensures { result ≡ tangent_at (reduced x x_abs) }
 {
     let reducer = ArgumentReducer { x, x_abs };
-    // The small pass, which is the common one, stands in place.
+    // The small pass, which is the common one, is called from here.
     let (y, k) = if x_abs < SMALL_PASS_BOUND {
         reducer.reduce_small()
     } else {

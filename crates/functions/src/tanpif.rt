@@ -65,7 +65,7 @@ pub(crate) fn tanpif_word(word: u32) -> u32
     }
     let (y, k) = ArgumentReducerPi { x: widened(word) }.reduce();
     let k = step_of(k);
-    // Near zero, and at quarters, where y is zero.
+    // Near zero, and where y is zero, as it is at quarters.
     if x_abs < TWO_TERMS_BOUND || y == 0.0 {
         return f32_to_bits_with_nan(tanpi_at(f32::from_bits(word), y, k));
     }

@@ -5,7 +5,7 @@ use Rattle.reducers.specs.Reduce.{reduce_quarter}
 use Rattle.formulas.specs.Words.{size_bits, fmla, narrowed, minus_tiny, one}
 use Rattle.formulas.specs.HalfTurns.{cospi_near, cosine_by, by_quarter, cospi_of}
 use Rattle.formulas.proofs.Ways.{cospif-line, cospif-near, cospif-nan, cospif-rest, unit, large-whole, digits-whole, not_whole}
-use Rattle.functions.proofs.Wording.{clean, size_is, size_not_finite, one_word, minus-one-word}
+use Rattle.functions.proofs.Wording.{clean, size_is, size_not_finite, one_word, minus_one_word}
 use Rattle.functions.proofs.cospif.cospif_word.Goals as goal
 use Rattle.functions.proofs.cospif.cospif_word.Goals.{then-x_abs-ge1258291200-via-then-x_abs-ge1258291200, then-x_abs-ge1258291200-via-else-x_abs-ge1258291200+then-is_integerf}
 
@@ -47,7 +47,7 @@ returns-then-is_odd_integerf c =
       | then-x_abs-ge1258291200-via-then-x_abs-ge1258291200 v ↦ large-whole w (whole_bits x) (omega (arith, v.if-x_abs-ge1258291200.true))
       | then-x_abs-ge1258291200-via-else-x_abs-ge1258291200+then-is_integerf v ↦ digits-whole w (whole_bits x) (sym v.is_integerf.ensures.is ∙ v.if-is_integerf.true)
     ] in
-    minus-one-word ∙ ap (to_bits binary32) (ap unit c.if-is_odd_integerf.ensures.is ∙ sym (cospif-rest w true (omega arith) (omega arith) e) ∙ ap cospi_of (sym (size_is c.args.word c.ranges.word.fits c.if-x_abs-ge-INFINITE.false)))
+    minus_one_word ∙ ap (to_bits binary32) (ap unit c.if-is_odd_integerf.ensures.is ∙ sym (cospif-rest w true (omega arith) (omega arith) e) ∙ ap cospi_of (sym (size_is c.args.word c.ranges.word.fits c.if-x_abs-ge-INFINITE.false)))
 
 pub returns-else-is_odd_integerf : goal.returns-else-is_odd_integerf
 returns-else-is_odd_integerf c =
