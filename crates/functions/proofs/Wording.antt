@@ -1,5 +1,5 @@
 -- Words of finite floats, and the six functions from word to word.
-use Rattle.std.proofs.Common.{◌≡◌, ℕ, zero, suc, ◌-◌, ◌*◌, ◌%◌, ◌^◌, ◌<◌, ◌≤◌, Bool, true, false, cond, not, ◌&&◌, ◌||◌, T, eqb, ltb, leb, sym, refl, ap, ◌∙◌, subst, arith}
+use Rattle.std.proofs.Common.{◌≡◌, ℕ, zero, suc, ◌-◌, ◌*◌, ◌%◌, ◌^◌, ◌<◌, ◌≤◌, Bool, true, false, cond, not, ◌&&◌, ◌||◌, ◌⊎◌, T, eqb, ltb, leb, sym, refl, ap, ◌∙◌, subst, arith}
 use lib.Ieee.{Float, Format, binary32, binary64, nan, inf, fin, up, down, mul, eq, is_nan, nan_bits, fits, neg, of_bits, of_fields, odd, to_bits}
 use lib.Ieee.Bits.{of_bits-to_bits, to_bits-of_bits, nan_bits_is}
 use lib.Ieee.Fits.{cond-fits, nan-fits, inf-fits, neg-fits, round-fits}
@@ -10,11 +10,19 @@ use Rattle.std.proofs.num.Patterns.{below_the_nans}
 use Rattle.rounding.proofs.Signs.{copied, bits-sign}
 use Rattle.rounding.specs.Bits.{whole_bits, odd_bits}
 use Rattle.reducers.specs.Reduce.{reduce, reduce_pi, reduce_quarter}
-use Rattle.reducers.specs.Exact.{mod_turn}
+use Rattle.circle.specs.Circle.{exact_sine, exact_cosine}
+use Rattle.reducers.specs.Exact.{mod_turn, radian_steps}
 use Rattle.table.specs.Tangents.{tangent64}
 use Rattle.formulas.specs.Words.{size_bits, fmla, narrowed, one, zero64, minus_tiny, on_word, zero_of, sine_at, cosine_at, tangent_at}
 use Rattle.formulas.specs.Radians.{infinite, sin_near, cos_near, tan_near, sinf, cos_of, cosf, tanf}
 use Rattle.formulas.specs.HalfTurns.{pi, minus_pi3_over6, pi3_over3, sinpi_near, cospi_near, sine_by, cosine_by, by_quarter, sinpif, cospi_of, cospif, tanpi_by, tanpi_at, tanpif}
+use Rattle.formulas.specs.Distance.{Near, half_turn_steps}
+use Rattle.formulas.specs.Tangent.{Tangential, AtHalf, OffHalf, NearTangent, HalfOrNear}
+use Rattle.formulas.proofs.Floats.{at-float, near-float}
+use Rattle.formulas.proofs.Radians.{radian-sine, radian-cosine}
+use Rattle.formulas.proofs.HalfTurns.{half-turn-sine, half-turn-cosine}
+use Rattle.formulas.proofs.TangentRadians.{radian_tangent}
+use Rattle.formulas.proofs.TangentHalfTurns.{half_turn_tangent}
 
 -- ---- a finite word
 pub clean : (w : ℕ) → w % 2 ^ 31 < infinite → T (not (nan_bits binary32 w))
@@ -189,3 +197,29 @@ cospif-float = on-float cospif cospif-fits
 
 pub tanpif-float : (x r : Float) (a b : ℕ) → T (fits binary32 x) → a ≡ to_bits binary32 x → b ≡ on_word tanpif a → r ≡ of_bits binary32 b → r ≡ tanpif x
 tanpif-float = on-float tanpif tanpif-fits
+
+-- ---- what holds of the floats of words
+-- where P holds of f at every float of the format, it holds of f on words
+on-words : (f : Float → Float) (P : Float → Float → Type 0) → ((x : Float) → T (fits binary32 x) → T (fits binary32 (f x))) → ((x : Float) → T (fits binary32 x) → P x (f x)) → (w b : ℕ) → b ≡ on_word f w → P (of_bits binary32 w) (of_bits binary32 b)
+on-words f P keeps holds w b B =
+    let x = of_bits binary32 w in
+    let h = of_bits-fits binary32 w in
+    subst (λ r. P x r) (sym (ap (of_bits binary32) B ∙ of_bits-to_bits binary32 (f x) (keeps x h))) (holds x h)
+
+pub sinf-words : (w b : ℕ) → b ≡ on_word sinf w → Near (of_bits binary32 w) (of_bits binary32 b) (exact_sine (radian_steps (of_bits binary32 w)))
+sinf-words = on-words sinf (λ x r. Near x r (exact_sine (radian_steps x))) sinf-fits (near-float sinf radian_steps exact_sine radian-sine)
+
+pub cosf-words : (w b : ℕ) → b ≡ on_word cosf w → Near (of_bits binary32 w) (of_bits binary32 b) (exact_cosine (radian_steps (of_bits binary32 w)))
+cosf-words = on-words cosf (λ x r. Near x r (exact_cosine (radian_steps x))) cosf-fits (near-float cosf radian_steps exact_cosine radian-cosine)
+
+pub tanf-words : (w b : ℕ) → b ≡ on_word tanf w → NearTangent (of_bits binary32 w) (of_bits binary32 b) (radian_steps (of_bits binary32 w))
+tanf-words = on-words tanf (λ x r. NearTangent x r (radian_steps x)) tanf-fits (at-float (λ x. Tangential (tanf x) (radian_steps x)) radian_tangent)
+
+pub sinpif-words : (w b : ℕ) → b ≡ on_word sinpif w → Near (of_bits binary32 w) (of_bits binary32 b) (exact_sine (half_turn_steps (of_bits binary32 w)))
+sinpif-words = on-words sinpif (λ x r. Near x r (exact_sine (half_turn_steps x))) sinpif-fits (near-float sinpif half_turn_steps exact_sine half-turn-sine)
+
+pub cospif-words : (w b : ℕ) → b ≡ on_word cospif w → Near (of_bits binary32 w) (of_bits binary32 b) (exact_cosine (half_turn_steps (of_bits binary32 w)))
+cospif-words = on-words cospif (λ x r. Near x r (exact_cosine (half_turn_steps x))) cospif-fits (near-float cospif half_turn_steps exact_cosine half-turn-cosine)
+
+pub tanpif-words : (w b : ℕ) → b ≡ on_word tanpif w → HalfOrNear (of_bits binary32 w) (of_bits binary32 b)
+tanpif-words = on-words tanpif HalfOrNear tanpif-fits (at-float (λ x. AtHalf x (tanpif x) ⊎ OffHalf x (tanpif x)) half_turn_tangent)
