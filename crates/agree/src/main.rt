@@ -28,10 +28,7 @@ fn read_file(rt: &HostRuntime, path: &str) -> io::Result<Vec<u8>> {
 // Why a record has no report, if it has none.
 fn fault_of(bytes: &[u8]) -> Option<RecordFault> {
     let mut buffer = [0u8; 96];
-    match report(bytes, &mut buffer) {
-        Ok(_) => None,
-        Err(fault) => Some(fault),
-    }
+    report(bytes, &mut buffer).err()
 }
 
 // Whether the record is refused; if so, that is printed.
@@ -39,18 +36,19 @@ fn is_refused(rt: &HostRuntime, name: &str, bytes: &[u8]) -> io::Result<bool> {
     match fault_of(bytes) {
         None => Ok(false),
         Some(fault) => {
-            let number = fault.cause.number();
-            let offset = fault.offset;
-            println!(rt; "{name} refused {number} at {offset}")?;
+            let line = fault.page();
+            print!(rt; "{name} {line}")?;
             Ok(true)
         }
     }
 }
 
 fn print_totals(rt: &HostRuntime, name: &str, totals: Totals) -> io::Result<()> {
-    let speed = totals.speed;
-    let along = totals.along;
-    let across = totals.across;
+    let Totals {
+        speed,
+        along,
+        across,
+    } = totals;
     let within = FROM_EXACT * u64::from(speed);
     println!(rt; "{name} speed {speed}")?;
     println!(rt; "{name} along {along}")?;

@@ -1,5 +1,4 @@
 #![tactic(auto)]
 
 pub mod calls;
-pub mod module;
 pub mod pair;

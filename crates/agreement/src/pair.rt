@@ -5,9 +5,9 @@ ghost use Rattle.record.specs.Outcome.{steps_of, calls_in};
 ghost use Rattle.agreement.specs.Compared.{Compared};
 
 use crate::calls::calls_of;
-use crate::module::Module;
 use law::run_both;
 use readers::reader::Reader;
+use record::module::Module;
 use sheets::book::Call;
 use sheets::totals::Totals;
 use std::alloc::{AllocError, Global};

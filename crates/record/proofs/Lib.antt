@@ -1,5 +1,5 @@
-pub mod Fields
+pub mod Cuts
 pub mod Replay
-pub mod Openings
+pub mod Tallies
 pub mod Pages
 pub mod Outcomes

@@ -1,13 +1,11 @@
 -- What the outcome of a record means.
-use Rattle.std.proofs.Common.{◌≡◌, ℕ, zero, suc, ◌+◌, ◌-◌, ◌*◌, ◌^◌, ◌<◌, ◌≤◌, Bool, true, false, cond, not, ◌||◌, eqb, ltb, ◌⊎◌, List, [], ◌∷◌, ◌++◌, map, length, get_or, take, drop, Some, None, Ok, Err, fold, filter, Option, Result, sym, refl, ap, ◌∙◌, subst, inl, inr, append_assoc, arith, lit<}
+use Rattle.std.proofs.Common.{◌≡◌, ℕ, zero, suc, ◌+◌, ◌-◌, ◌*◌, ◌^◌, ◌<◌, ◌≤◌, Bool, true, false, cond, not, eqb, ltb, ◌⊎◌, List, [], ◌∷◌, ◌++◌, map, length, get_or, slice_index, take, drop, Ok, Err, fold, filter, Result, sym, refl, ap, ◌∙◌, subst, inl, inr, append_assoc, arith, lit<}
 use mathlib.Core.List.Permᴰ
 use Rattle.std.specs.List.{AllByRecursion}
 use Rattle.std.proofs.ByRecursion.{all_kept_by}
 use Rattle.std.proofs.lemmas.List.{get_or-drop}
 use Rattle.std.proofs.lemmas.Bool.{ltb-true, ltb-false}
-use Rattle.readers.specs.Meaning.{Steps, Reading, Keeps}
-use Rattle.readers.specs.EditionsLemmas.{radian-keeps, half-turn-keeps}
-use Rattle.readers.specs.Mounts.{turned-keeps, mirrored-keeps}
+use Rattle.readers.specs.Meaning.{Steps}
 use Rattle.sheets.specs.declared.book.Call.{Call}
 use Rattle.sheets.specs.declared.book.Call.TheVariants.{Enter, Correct, Withdraw, RowOf, RowAt, Count, Totals}
 use Rattle.sheets.specs.declared.book.Entry.{Entry}
@@ -19,10 +17,9 @@ use Rattle.sheets.specs.Runs.{filled}
 use Rattle.law.proofs.Books.{all-allowed, all-entered, all-corrected}
 use Rattle.law.proofs.Near.{holds}
 use Rattle.record.specs.declared.edition.Edition.{Edition}
-use Rattle.record.specs.declared.edition.Edition.TheVariants as edition
 use Rattle.record.specs.declared.edition.Mount.{Mount}
 use Rattle.record.specs.declared.fault.Cause.{Cause}
-use Rattle.record.specs.declared.fault.Cause.TheVariants.{Buffer, TooLong, Short, Value, Refused}
+use Rattle.record.specs.declared.fault.Cause.TheVariants.{Buffer, TooLong, Short, Refused}
 use Rattle.record.specs.declared.fault.RecordFault.{RecordFault}
 use Rattle.record.specs.declared.item.Item.{Item}
 use Rattle.record.specs.declared.item.Item.TheVariants as item
@@ -31,11 +28,13 @@ use Rattle.record.specs.declared.state.Kind.TheVariants as kind
 use Rattle.record.specs.declared.state.State.{State}
 use Rattle.record.specs.declared.state.State.TheVariants as state
 use Rattle.record.specs.Refusals.{located}
-use Rattle.record.specs.Fields.{and_then, Cut, cut, entry_of, item_of, Read, field_at}
-use Rattle.record.specs.Record.{Field, saying, following, fields, fields_of, lifted, put, made, replay, edition_of, mount_of, edition_steps, edition_answer, mirror_steps, mirror_answer, steps_under, answer_under, tally_of, record_tally}
+use Rattle.record.specs.Fields.{and_then, Cut, cut, edition_from, mount_from, entry_of, item_of, Read, field_at}
+use Rattle.record.specs.declared.fields.Field.{Field}
+use Rattle.record.specs.Modules.{under-keeps}
+use Rattle.record.specs.Record.{saying, following, fields, fields_of, lifted, put, made, replay, edition_of, mount_of, tally_of, record_tally}
 use Rattle.record.specs.Page.{outcome_of}
 use Rattle.record.specs.Outcome.{steps_of, answer_of, calling, calls_in, Stands, Yes, after, Passed, No, FirstNo, Means}
-use Rattle.record.proofs.Fields.{field-whole}
+use Rattle.record.proofs.Cuts.{field-whole}
 
 -- ---- one field
 -- what a call comes to, by the book's answer
@@ -163,14 +162,21 @@ entry-fits : (body : List ℕ) → Bytes body → Fit (entry_of body)
 unfolding Bytes
 entry-fits body h = let a = h 4 in let b = h 5 in let c = h 6 in let d = h 7 in omega arith
 
-either-fits : (t : Bool) (p q : Result Item Cause) → Fits p → Fits q → Fits (cond t p q)
-either-fits true p q f g = f
-either-fits false p q f g = g
+-- an edition and a mount have no word
+edition-fits : (q : Result Edition Cause) → Fits (and_then q (λ e. Ok (item.Edition e)))
+unfolding Fits
+edition-fits (Ok e) = tt
+edition-fits (Err c) = tt
+
+mount-fits : (q : Result Mount Cause) → Fits (and_then q (λ m. Ok (item.Mount m)))
+unfolding Fits
+mount-fits (Ok m) = tt
+mount-fits (Err c) = tt
 
 item-fits : (k : Kind) (body : List ℕ) → Bytes body → Fits (item_of k body)
 unfolding Fits
-item-fits kind.Edition body h = either-fits (eqb (get_or body 0 0) 5) (Ok (item.Edition edition.Radians)) (cond (eqb (get_or body 0 0) 6) (Ok (item.Edition edition.HalfTurns)) (Err Value)) tt (either-fits (eqb (get_or body 0 0) 6) (Ok (item.Edition edition.HalfTurns)) (Err Value) tt tt)
-item-fits kind.Mount body h = either-fits (ltb 3 (get_or body 0 0) || ltb 1 (get_or body 1 0)) (Err Value) (Ok (item.Mount (record { quarters = get_or body 0 0; mirrored = eqb (get_or body 1 0) 1 }))) tt tt
+item-fits kind.Edition body h = edition-fits (edition_from (slice_index body 0))
+item-fits kind.Mount body h = mount-fits (mount_from (slice_index body 0) (slice_index body 1))
 item-fits kind.Enter body h = entry-fits body h
 item-fits kind.Withdraw body h = tt
 item-fits kind.Correct body h = entry-fits body h
@@ -224,19 +230,6 @@ calls-fit steps book (Err c) fs f rest h = rest book h
 standing-fit : (steps : ℕ → Steps) (fs : List Field) → AllByRecursion (λ f. Fits f.said) fs → (book : List Entry) → AllByRecursion Fit book → AllByRecursion Fit (fold (written steps) book (calls_in fs))
 standing-fit steps [] a book h = h
 standing-fit steps (f ∷ fs) a book h = calls-fit steps book f.said fs a.0 (standing-fit steps fs a.1) h
-
--- ---- the record's reader keeps its promise
-edition-keeps : (e : Edition) (w : ℕ) → Keeps (edition_steps e w) (edition_answer e w)
-edition-keeps edition.Radians w = radian-keeps w
-edition-keeps edition.HalfTurns w = half-turn-keeps w
-
-mirror-keeps : (b : Bool) (o : Steps) (a : Reading) → Keeps o a → Keeps (mirror_steps b o) (mirror_answer b a)
-mirror-keeps true o a k = mirrored-keeps o a k
-mirror-keeps false o a k = k
-
-pub under-keeps : (m : Option Mount) (e : Edition) (w : ℕ) → Keeps (steps_under m (edition_steps e) w) (answer_under m (edition_answer e) w)
-under-keeps None e w = edition-keeps e w
-under-keeps (Some m) e w = turned-keeps m.quarters (mirror_steps m.mirrored (edition_steps e w)) (mirror_answer m.mirrored (edition_answer e w)) (mirror-keeps m.mirrored (edition_steps e w) (edition_answer e w) (edition-keeps e w))
 
 -- ---- the whole
 stands : (bytes : List ℕ) (book : List Entry) → Bytes bytes → replay (steps_of bytes) [] (fields_of bytes) ≡ Ok book → Stands bytes (tally_of (edition_of (fields_of bytes)) (answer_of bytes) book)

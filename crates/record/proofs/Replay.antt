@@ -11,13 +11,14 @@ use Rattle.sheets.specs.Runs.{Grown}
 use Rattle.sheets.proofs.Runs.{asked-alike, samples-order}
 use Rattle.record.specs.declared.fault.Cause.{Cause}
 use Rattle.record.specs.declared.fault.RecordFault.{RecordFault}
+use Rattle.record.specs.declared.fields.Field.{Field}
 use Rattle.record.specs.declared.item.Item.TheVariants.{Put}
 use Rattle.record.specs.declared.state.State.{State}
 use Rattle.record.specs.Refusals.{located}
 use Rattle.record.specs.Fields.{and_then, Read, field_at}
 use Rattle.record.specs.Record.{saying, following, fields, lifted, put, made, replay}
-use Rattle.record.specs.Reached.{Reached, Follows}
-use Rattle.record.proofs.Fields.{field-shorter}
+use Rattle.record.specs.Reached.{Follows}
+use Rattle.record.proofs.Cuts.{field-shorter}
 
 -- a call: the sheet's yes or no is the book's
 pub put-follows : (steps : ℕ → Steps) (answer : ℕ → Reading) (book : List Entry) (rows after : List Row) (call : Call) (r : Result (Unit {0}) SheetFault) (offset : ℕ) → r ≡ asked steps (samples rows) call → Grown answer book rows → Grown answer (written steps book call) after
@@ -40,42 +41,61 @@ unfolding fields
 fields-none zero s total = refl
 fields-none (suc n) s total = refl
 
-module _ (steps : ℕ → Steps) (answer : ℕ → Reading) (total : ℕ) (outcome : Result (List Entry) RecordFault) (bytes : List ℕ) (s : State) (rows : List Row) (there : 0 < length bytes) (R : Reached steps answer total outcome bytes s rows) where
-  first : (m : ℕ) × (length bytes ≤ suc m) × (fields R.fuel s total bytes ≡ record { at = total - length bytes; said = saying (field_at s bytes) } ∷ following (field_at s bytes) (λ f. fields m f.state total f.rest))
-  first = fields-first R.fuel s total bytes there R.enough
+pub fields-empty : (s : State) (total : ℕ) (bytes : List ℕ) → length bytes ≡ 0 → fields (length bytes) s total bytes ≡ []
+fields-empty s total [] h = fields-none 0 s total
+fields-empty s total (b ∷ bs) h = absurd (omega arith)
 
-  opened : (r : Result Read Cause) → field_at s bytes ≡ r → outcome ≡ and_then (made steps R.book (record { at = total - length bytes; said = saying r })) (λ b. replay steps b (following r (λ f. fields first.0 f.state total f.rest)))
+-- enough is enough: the number of fields that are asked for does not matter
+pub fields-enough : (n m : ℕ) (s : State) (total : ℕ) (bytes : List ℕ) → length bytes ≤ n → length bytes ≤ m → fields n s total bytes ≡ fields m s total bytes
+unfolding fields
+fields-enough n m s total [] h l = fields-none n s total ∙ sym (fields-none m s total)
+fields-enough zero m s total (b ∷ bs) h l = absurd (omega arith)
+fields-enough (suc n) zero s total (b ∷ bs) h l = absurd (omega arith)
+fields-enough (suc n) (suc m) s total (b ∷ bs) h l =
+    let go : (r : Result Read Cause) → field_at s (b ∷ bs) ≡ r → following r (λ f. fields n f.state total f.rest) ≡ following r (λ f. fields m f.state total f.rest) =
+    λ r. elim r as (λ r. field_at s (b ∷ bs) ≡ r → following r (λ f. fields n f.state total f.rest) ≡ following r (λ f. fields m f.state total f.rest)) [
+      | Ok f ↦ λ e. fields-enough n m f.state total f.rest (omega (arith, field-shorter s (b ∷ bs) f e)) (omega (arith, field-shorter s (b ∷ bs) f e))
+      | Err c ↦ λ e. refl
+    ] in
+    ap (λ l. record { at = total - length (b ∷ bs); said = saying (field_at s (b ∷ bs)) } ∷ l) (go (field_at s (b ∷ bs)) refl)
+
+-- the first field, and those that are left after it
+abbrev pub left-after : Result Read Cause → ℕ → List Field
+left-after r total = following r (λ f. fields (length f.rest) f.state total f.rest)
+
+pub fields-step : (s : State) (total : ℕ) (bytes : List ℕ) (r : Result Read Cause) → 0 < length bytes → field_at s bytes ≡ r
+    → fields (length bytes) s total bytes ≡ record { at = total - length bytes; said = saying r } ∷ left-after r total
+fields-step s total bytes r h e =
+    let f = fields-first (length bytes) s total bytes h (omega arith) in
+    let go : (q : Result Read Cause) → field_at s bytes ≡ q → following q (λ f'. fields f.0 f'.state total f'.rest) ≡ left-after q total =
+    λ q. elim q as (λ q. field_at s bytes ≡ q → following q (λ f'. fields f.0 f'.state total f'.rest) ≡ left-after q total) [
+      | Ok x ↦ λ i. fields-enough f.0 (length x.rest) x.state total x.rest (omega (arith, f.1, field-shorter s bytes x i)) (omega arith)
+      | Err c ↦ λ i. refl
+    ] in
+    f.2 ∙ ap (λ q. record { at = total - length bytes; said = saying q } ∷ following q (λ f'. fields f.0 f'.state total f'.rest)) e
+    ∙ ap (λ l. record { at = total - length bytes; said = saying r } ∷ l) (go r e)
+
+-- ---- a replay beside the sheet
+module _ (steps : ℕ → Steps) (answer : ℕ → Reading) (outcome : Result (List Entry) RecordFault) (book : List Entry) (after : List Row) where
+  -- a field that is taken
+  pub replay-taken : (field : Field) (rest : List Field) → outcome ≡ replay steps book (field ∷ rest) → Follows answer after (made steps book field) (Ok tt) → (next : List Entry) × Grown answer next after × (outcome ≡ replay steps next rest)
   unfolding replay
-  opened r e = R.same ∙ ap (replay steps R.book) first.2 ∙ ap (λ q. replay steps R.book (record { at = total - length bytes; said = saying q } ∷ following q (λ f. fields first.0 f.state total f.rest))) e
+  replay-taken field rest e F =
+      let go : (q : Result (List Entry) RecordFault) → Follows answer after q (Ok tt) → outcome ≡ and_then q (λ b. replay steps b rest) → (next : List Entry) × Grown answer next after × (outcome ≡ replay steps next rest) =
+      λ q. elim q as (λ q. Follows answer after q (Ok tt) → outcome ≡ and_then q (λ b. replay steps b rest) → (next : List Entry) × Grown answer next after × (outcome ≡ replay steps next rest))
+      [ Ok b ↦ λ h i. (b, h, i) | Err f ↦ λ h _. absurd h ] in
+      go (made steps book field) F e
 
   -- a field that is refused
-  pub refused-field : (c : Cause) → field_at s bytes ≡ Err c → outcome ≡ Err (record { cause = c; offset = total - length bytes })
-  refused-field c e = opened (Err c) e
+  pub replay-refused : (field : Field) (rest : List Field) (f : RecordFault) → outcome ≡ replay steps book (field ∷ rest) → Follows answer after (made steps book field) (Err f) → Follows answer after outcome (Err f)
+  unfolding replay
+  replay-refused field rest f e F =
+      let go : (q : Result (List Entry) RecordFault) → Follows answer after q (Err f) → outcome ≡ and_then q (λ b. replay steps b rest) → Follows answer after outcome (Err f) =
+      λ q. elim q as (λ q. Follows answer after q (Err f) → outcome ≡ and_then q (λ b. replay steps b rest) → Follows answer after outcome (Err f))
+      [ Ok b ↦ λ h _. absurd h | Err f' ↦ λ h i. subst (λ z. Follows answer after z (Err f)) (sym i) h ] in
+      go (made steps book field) F e
 
-  module _ (f : Read) (isRead : field_at s bytes ≡ Ok f) (after : List Row) where
-    made-field : outcome ≡ and_then (located (total - length bytes) (put steps R.book f.item)) (λ b. replay steps b (fields first.0 f.state total f.rest))
-    made-field = opened (Ok f) isRead
-
-    -- a field that the sheet refuses
-    pub refused-call : (c : Cause) → Follows answer after (located (total - length bytes) (put steps R.book f.item)) (located (total - length bytes) (Err c)) → outcome ≡ Err (record { cause = c; offset = total - length bytes })
-    refused-call c F =
-        let go : (q : Result (List Entry) RecordFault) → Follows answer after q (Err (record { cause = c; offset = total - length bytes })) → and_then q (λ b. replay steps b (fields first.0 f.state total f.rest)) ≡ Err (record { cause = c; offset = total - length bytes }) =
-        λ q. elim q as (λ q. Follows answer after q (Err (record { cause = c; offset = total - length bytes })) → and_then q (λ b. replay steps b (fields first.0 f.state total f.rest)) ≡ Err (record { cause = c; offset = total - length bytes }))
-        [ Ok b ↦ λ h. absurd h | Err e ↦ λ h. ap Err h ] in
-        made-field ∙ go (located (total - length bytes) (put steps R.book f.item)) F
-
-    -- a field that the sheet takes
-    pub reached-more : Follows answer after (located (total - length bytes) (put steps R.book f.item)) (Ok tt) → Reached steps answer total outcome f.rest f.state after
-    reached-more F =
-        let go : (q : Result (List Entry) RecordFault) → Follows answer after q (Ok tt) → outcome ≡ and_then q (λ b. replay steps b (fields first.0 f.state total f.rest)) → Reached steps answer total outcome f.rest f.state after =
-        λ q. elim q as (λ q. Follows answer after q (Ok tt) → outcome ≡ and_then q (λ b. replay steps b (fields first.0 f.state total f.rest)) → Reached steps answer total outcome f.rest f.state after) [
-          | Ok b ↦ λ h e. record { book = b; fuel = first.0; grown = h; enough = omega (arith, field-shorter s bytes f isRead, first.1); same = e }
-          | Err e ↦ λ h _. absurd h
-        ] in
-        go (located (total - length bytes) (put steps R.book f.item)) F made-field
-
--- at the end
-pub reached-end : (steps : ℕ → Steps) (answer : ℕ → Reading) (total : ℕ) (outcome : Result (List Entry) RecordFault) (bytes : List ℕ) (s : State) (rows : List Row) → length bytes ≡ 0 → Reached steps answer total outcome bytes s rows → Follows answer rows outcome (Ok tt)
-unfolding replay
-reached-end steps answer total outcome (b ∷ bs) s rows h R = absurd (omega arith)
-reached-end steps answer total outcome [] s rows h R = subst (λ q. Follows answer rows q (Ok tt)) (sym (R.same ∙ ap (replay steps R.book) (fields-none R.fuel s total))) R.grown
+  -- the end
+  pub replay-over : (rest : List Field) → rest ≡ [] → outcome ≡ replay steps book rest → Grown answer book after → Follows answer after outcome (Ok tt)
+  unfolding replay
+  replay-over rest none e h = subst (λ z. Follows answer after z (Ok tt)) (sym (e ∙ ap (replay steps book) none)) h

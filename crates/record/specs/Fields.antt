@@ -1,9 +1,13 @@
 -- Fields: how one is cut off a record, where it may stand, and what it says. Definitions only.
-use Rattle.std.specs.Prelude.{ℕ, ◌+◌, ◌*◌, cond, ◌||◌, List, [], ◌∷◌, length, take, drop, Ok, Err, Result, ◌==◌, nat_lt, slice_index}
+use Rattle.std.specs.Prelude.{ℕ, ◌+◌, ◌*◌, cond, true, false, List, [], ◌∷◌, length, take, drop, Ok, Err, Result, ◌==◌, nat_lt, slice_index}
+use Rattle.readers.specs.declared.mount.MountFault.{MountFault}
+use Rattle.readers.specs.declared.mount.Quarters.{Quarters}
+use Rattle.readers.specs.Quarters.{quarters_of}
 use Rattle.sheets.specs.declared.book.Entry.{Entry}
 use Rattle.sheets.specs.declared.book.Call.TheVariants as call
 use Rattle.record.specs.declared.edition.Edition.{Edition}
 use Rattle.record.specs.declared.edition.Edition.TheVariants as edition
+use Rattle.record.specs.declared.edition.Mount.{Mount}
 use Rattle.record.specs.declared.fault.Cause.{Cause}
 use Rattle.record.specs.declared.fault.Cause.TheVariants as cause
 use Rattle.record.specs.declared.item.Item.{Item}
@@ -67,17 +71,22 @@ abbrev pub entry_of : List ℕ → Entry
 entry_of body = record { sample = wide body 0; speed = wide body 2; word = wide body 4 * 65536 + wide body 6 }
 
 -- edition 5 or 6
-abbrev pub edition_item : ℕ → Result Item Cause
-edition_item b = cond (b == 5) (Ok (item.Edition edition.Radians)) (cond (b == 6) (Ok (item.Edition edition.HalfTurns)) (Err cause.Value))
+abbrev pub edition_from : ℕ → Result Edition Cause
+edition_from b = cond (b == 5) (Ok edition.Radians) (cond (b == 6) (Ok edition.HalfTurns) (Err cause.Value))
+
+-- with these quarter turns, if they are allowed: mirror 0 or 1
+abbrev pub mirrored_by : ℕ → Result Quarters MountFault → Result Mount Cause
+mirrored_by m (Ok q) = cond (m == 0) (Ok (record { quarters = q; mirrored = false })) (cond (m == 1) (Ok (record { quarters = q; mirrored = true })) (Err cause.Value))
+mirrored_by m (Err e) = Err cause.Value
 
 -- 0 to 3 quarter turns, mirror 0 or 1
-abbrev pub mount_item : ℕ → ℕ → Result Item Cause
-mount_item q m = cond (nat_lt 3 q || nat_lt 1 m) (Err cause.Value) (Ok (item.Mount (record { quarters = q; mirrored = (m == 1) })))
+abbrev pub mount_from : ℕ → ℕ → Result Mount Cause
+mount_from q m = mirrored_by m (quarters_of q)
 
 -- what a body of the right length says, if its values are allowed
 abbrev pub item_of : Kind → List ℕ → Result Item Cause
-item_of kind.Edition body = edition_item (slice_index body 0)
-item_of kind.Mount body = mount_item (slice_index body 0) (slice_index body 1)
+item_of kind.Edition body = and_then (edition_from (slice_index body 0)) (λ e. Ok (item.Edition e))
+item_of kind.Mount body = and_then (mount_from (slice_index body 0) (slice_index body 1)) (λ m. Ok (item.Mount m))
 item_of kind.Enter body = Ok (item.Put (call.Enter (entry_of body)))
 item_of kind.Withdraw body = Ok (item.Put (call.Withdraw (wide body 0)))
 item_of kind.Correct body = Ok (item.Put (call.Correct (entry_of body)))

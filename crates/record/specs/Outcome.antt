@@ -13,7 +13,8 @@ use Rattle.record.specs.declared.fault.RecordFault.{RecordFault}
 use Rattle.record.specs.declared.item.Item.{Item}
 use Rattle.record.specs.declared.item.Item.TheVariants as item
 use Rattle.record.specs.declared.tally.Tally.{Tally}
-use Rattle.record.specs.Record.{Field, fields_of, edition_of, mount_of, edition_steps, edition_answer, steps_under, answer_under}
+use Rattle.record.specs.declared.fields.Field.{Field}
+use Rattle.record.specs.Record.{fields_of, edition_of, mount_of, edition_steps, edition_answer, steps_under, answer_under}
 
 -- the meaning of a record's words: its edition's, under its mount
 abbrev pub steps_of : List ℕ → ℕ → Steps
@@ -39,7 +40,7 @@ calls_in (f ∷ fs) = calling f.said (calls_in fs)
 pub record Stands (bytes : List ℕ) (t : Tally) : Type 0 where
   pub edition : t.edition ≡ edition_of (fields_of bytes)
   pub rows : t.rows ≡ length (standing_after (steps_of bytes) (calls_in (fields_of bytes)))
-  pub totals : Holds (steps_of bytes) (answer_of bytes) (calls_in (fields_of bytes)) (map (filled (answer_of bytes)) (standing_after (steps_of bytes) (calls_in (fields_of bytes)))) (record { speed = t.speed; along = t.along; across = t.across })
+  pub totals : Holds (steps_of bytes) (answer_of bytes) (calls_in (fields_of bytes)) (map (filled (answer_of bytes)) (standing_after (steps_of bytes) (calls_in (fields_of bytes)))) t.totals
 
 -- what a field says gets a yes, where this book stands
 abbrev pub Yes : (ℕ → Steps) → List Entry → Item → Type 0

@@ -24,7 +24,7 @@ lines edition rows speed along across =
 
 -- the text of a report
 abbrev pub report_text : Tally → List ℕ
-report_text t = lines t.edition t.rows t.speed t.along t.across
+report_text t = lines t.edition t.rows t.totals.speed t.totals.along t.totals.across
 
 -- a line: refused, a number, at, a place
 unfoldable pub refusal : ℕ → ℕ → List ℕ

@@ -1,6 +1,7 @@
 -- What a record says: its fields in their order, and the outcome of the questions put to them. Definitions only.
 use Rattle.std.specs.Prelude.{ℕ, zero, suc, ◌-◌, Bool, true, false, List, [], ◌∷◌, map, length, Some, None, Ok, Err, Option, Result}
 use Rattle.readers.specs.Meaning.{Steps, Reading, turned_steps, turned_answer, mirrored_steps, mirrored_answer}
+use Rattle.readers.specs.Quarters.{quarter_count}
 use Rattle.readers.specs.Editions.{radian_meaning, radian_answer, half_turn_meaning, half_turn_answer}
 use Rattle.sheets.specs.declared.book.Entry.{Entry}
 use Rattle.sheets.specs.declared.fault.SheetFault.{SheetFault}
@@ -13,6 +14,7 @@ use Rattle.record.specs.declared.edition.Mount.{Mount}
 use Rattle.record.specs.declared.fault.Cause.{Cause}
 use Rattle.record.specs.declared.fault.Cause.TheVariants.{Tag, Refused}
 use Rattle.record.specs.declared.fault.RecordFault.{RecordFault}
+use Rattle.record.specs.declared.fields.Field.{Field}
 use Rattle.record.specs.declared.item.Item.{Item}
 use Rattle.record.specs.declared.item.Item.TheVariants as item
 use Rattle.record.specs.declared.state.State.{State}
@@ -20,11 +22,6 @@ use Rattle.record.specs.declared.state.State.TheVariants as state
 use Rattle.record.specs.declared.tally.Tally.{Tally}
 use Rattle.record.specs.Refusals.{located}
 use Rattle.record.specs.Fields.{and_then, Read, field_at}
-
--- a field of a record: the offset of its tag, and what it says or why it is refused
-pub record Field : Type 0 where
-  pub at : ℕ
-  pub said : Result Item Cause
 
 -- what a field says
 abbrev pub saying : Result Read Cause → Result Item Cause
@@ -119,16 +116,16 @@ mirror_answer false a = a
 -- steps under the mount: mirroring lies below turning
 abbrev pub steps_under : Option Mount → (ℕ → Steps) → ℕ → Steps
 steps_under None steps w = steps w
-steps_under (Some m) steps w = turned_steps m.quarters (mirror_steps m.mirrored (steps w))
+steps_under (Some m) steps w = turned_steps (quarter_count m.quarters) (mirror_steps m.mirrored (steps w))
 
 -- answers under the mount
 abbrev pub answer_under : Option Mount → (ℕ → Reading) → ℕ → Reading
 answer_under None answer w = answer w
-answer_under (Some m) answer w = turned_answer m.quarters (mirror_answer m.mirrored (answer w))
+answer_under (Some m) answer w = turned_answer (quarter_count m.quarters) (mirror_answer m.mirrored (answer w))
 
 -- what is reported of the rows standing: their count and the totals of their shares
 abbrev pub tally_of : Edition → (ℕ → Reading) → List Entry → Tally
-tally_of e answer book = record { edition = e; rows = length book; speed = speed_of (map (filled answer) book); along = along_of (map (filled answer) book); across = across_of (map (filled answer) book) }
+tally_of e answer book = record { edition = e; rows = length book; totals = record { speed = speed_of (map (filled answer) book); along = along_of (map (filled answer) book); across = across_of (map (filled answer) book) } }
 
 -- by an edition and a mount, from the fields
 abbrev pub tallied : Edition → Option Mount → List Field → Result Tally RecordFault

@@ -1,8 +1,12 @@
 // Why a record is refused, and where.
 ghost use Rattle.std.specs.Prelude.{◌≡◌};
-ghost use Rattle.record.specs.declared.fault.Cause.TheVariants.{Refused};
+ghost use Rattle.record.specs.declared.fault.Cause.TheVariants.{Refused, Value};
 ghost use Rattle.record.specs.Refusals.{cause_number, located};
+ghost use Rattle.record.specs.Page.{refusal_text};
 
+use crate::page::Page;
+use itoa::Buffer;
+use readers::mount::MountFault;
 use sheets::fault::SheetFault;
 
 #[derive(Clone, Copy)]
@@ -38,6 +42,16 @@ impl Cause {
             Cause::Refused(fault) => fault.number(),
         }
     }
+
+    // With its place: the offset of the field's tag.
+    pub fn at(self, offset: usize) -> RecordFault
+        ensures { result ≡ record { cause = self; offset = offset } }
+    {
+        RecordFault {
+            cause: self,
+            offset,
+        }
+    }
 }
 
 impl From<SheetFault> for Cause {
@@ -48,6 +62,15 @@ impl From<SheetFault> for Cause {
     }
 }
 
+// Quarter turns that are none are a value that is not allowed.
+impl From<MountFault> for Cause {
+    ghost from_gives = { λ _ c. c ≡ Value };
+
+    fn from(_: MountFault) -> Cause {
+        Cause::Value
+    }
+}
+
 // A cause, with the offset of the field's tag.
 #[derive(Clone, Copy)]
 pub struct RecordFault {
@@ -55,12 +78,24 @@ pub struct RecordFault {
     pub offset: usize,
 }
 
+impl RecordFault {
+    // The line of its refusal.
+    pub fn page(&self) -> Page
+        ensures { result.bytes ≡ refusal_text self.now }
+    {
+        let mut page = Page::new();
+        page.push_str("refused ");
+        page.push_str(Buffer::new().format(self.cause.number()));
+        page.push_str(" at ");
+        page.push_str(Buffer::new().format(self.offset));
+        page.push_str("\n");
+        page
+    }
+}
+
 // The offset is added where the field's place is known.
 pub fn at_offset<T>(r: Result<T, Cause>, offset: usize) -> Result<T, RecordFault>
     ensures { result ≡ located offset r }
 {
-    match r {
-        Ok(x) => Ok(x),
-        Err(cause) => Err(RecordFault { cause, offset }),
-    }
+    r.map_err(|cause| cause.at(offset))
 }

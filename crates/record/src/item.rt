@@ -1,9 +1,10 @@
 // What a field says: the edition, the mount, or a call on the sheet.
-ghost use Rattle.std.specs.Prelude.{◌≡◌, ◌+◌, ◌*◌, length, Ok, Err, MatchResult};
-ghost use Rattle.record.specs.Fields.{length_of, item_of, entry_of, edition_item, mount_item, field_at};
+ghost use Rattle.std.specs.Prelude.{◌≡◌, length, Ok, Err, MatchResult};
+ghost use Rattle.record.specs.Fields.{length_of, item_of, entry_of, field_at};
+ghost use Rattle.record.specs.Record.{said_mount};
 
 use crate::edition::{Edition, Mount};
-use crate::fault::{Cause, RecordFault};
+use crate::fault::Cause;
 use crate::field::{high_first, take_field};
 use crate::state::{Kind, State, stand};
 use sheets::book::{Call, Entry};
@@ -15,6 +16,18 @@ pub enum Item {
     Put(Call),
 }
 
+impl Item {
+    // The mount that it says, if it says one.
+    pub fn mount(self) -> Option<Mount>
+        ensures { result ≡ said_mount (Ok self) }
+    {
+        match self {
+            Item::Mount(mount) => Some(mount),
+            Item::Edition(_) | Item::Put(_) => None,
+        }
+    }
+}
+
 // A field that was read: what it says, the state after it, and the bytes after it.
 #[derive(Clone, Copy)]
 pub struct Taken<'a> {
@@ -23,38 +36,14 @@ pub struct Taken<'a> {
     pub rest: &'a [u8],
 }
 
-fn edition_item(b: u8) -> Result<Item, Cause>
-    ensures { result ≡ edition_item b }
-{
-    match b {
-        5 => Ok(Item::Edition(Edition::Radians)),
-        6 => Ok(Item::Edition(Edition::HalfTurns)),
-        _ => Err(Cause::Value),
-    }
-}
-
-fn mount_item(quarters: u8, mirror: u8) -> Result<Item, Cause>
-    ensures { result ≡ mount_item quarters mirror }
-{
-    if quarters > 3 || mirror > 1 {
-        return Err(Cause::Value);
-    }
-    Ok(Item::Mount(Mount {
-        quarters,
-        mirrored: mirror == 1,
-    }))
-}
-
 fn entry_of(body: &[u8]) -> Entry
     requires { length body.now ≡ 8 }
     ensures { result ≡ entry_of body.now }
 {
-    let high = high_first(body[4], body[5]);
-    let low = high_first(body[6], body[7]);
     Entry {
         sample: high_first(body[0], body[1]),
         speed: high_first(body[2], body[3]),
-        word: high as u32 * 65536 + low as u32,
+        word: u32::from_be_bytes([body[4], body[5], body[6], body[7]]),
     }
 }
 
@@ -64,8 +53,8 @@ fn item_of(kind: Kind, body: &[u8]) -> Result<Item, Cause>
     ensures { result ≡ item_of kind body.now }
 {
     match kind {
-        Kind::Edition => edition_item(body[0]),
-        Kind::Mount => mount_item(body[0], body[1]),
+        Kind::Edition => Ok(Item::Edition(Edition::try_from(body[0])?)),
+        Kind::Mount => Ok(Item::Mount(Mount::try_from((body[0], body[1]))?)),
         Kind::Enter => Ok(Item::Put(Call::Enter(entry_of(body)))),
         Kind::Correct => Ok(Item::Put(Call::Correct(entry_of(body)))),
         Kind::Withdraw => Ok(Item::Put(Call::Withdraw(high_first(body[0], body[1])))),
@@ -87,14 +76,4 @@ pub fn read_field(bytes: &[u8], state: State) -> Result<Taken<'_>, Cause>
         state,
         rest: field.rest,
     })
-}
-
-// The same with a refusal's place.
-pub fn read_field_at(bytes: &[u8], state: State, offset: usize) -> Result<Taken<'_>, RecordFault>
-    ensures { MatchResult result (λ t. field_at state bytes.now ≡ Ok (record { item = t.item; state = t.state; rest = t.rest.now })) (λ f. (field_at state bytes.now ≡ Err f.cause) × (f.offset ≡ offset)) }
-{
-    match read_field(bytes, state) {
-        Ok(field) => Ok(field),
-        Err(cause) => Err(RecordFault { cause, offset }),
-    }
 }

@@ -1,4 +1,4 @@
-// What is printed of a record: its report, or the line of its refusal.
+// What is printed of a record, for a caller in C: no page, and a length for its answer.
 ghost use Rattle.record.specs.Page.{Printed};
 
 use crate::report::{refusal_line, report};
@@ -9,9 +9,6 @@ pub fn print(bytes: &[u8], buffer: &mut [u8]) -> usize
 {
     match report(bytes, buffer) {
         Ok(n) => n,
-        Err(fault) => match refusal_line(fault, buffer) {
-            Ok(n) => n,
-            Err(_) => 0,
-        },
+        Err(fault) => refusal_line(fault, buffer).unwrap_or(0),
     }
 }

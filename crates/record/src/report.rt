@@ -1,36 +1,26 @@
-// A report of a record, or the line of its refusal, in a lent buffer.
-ghost use Rattle.std.specs.Prelude.{◌≡◌, ◌+◌, ◌<◌, ◌≤◌, length};
+// A report of a record, or the line of its refusal, in a lent buffer or as a page.
+ghost use Rattle.std.specs.Prelude.{◌≡◌, length};
 ghost use Rattle.record.specs.Outcome.{Means};
-ghost use Rattle.record.specs.Page.{pasted, lines, refusal, outcome_of, Reported, Told};
+ghost use Rattle.record.specs.Page.{outcome_of, text_of, Reported, Told};
 
-use crate::edition::Edition;
 use crate::fault::{Cause, RecordFault};
+use crate::page::{Page, lay};
 use crate::reading::read_record;
-use crate::text::{put, put_decimal, put_line, put_signed_line};
+use crate::tally::Tally;
 
 // The fewest bytes of a buffer, and the most of a record.
 const ROOM: usize = 96;
 
 const LONGEST: usize = 65_536;
 
-// The five lines.
-fn write_lines(
-    buffer: &mut [u8],
-    edition: Edition,
-    rows: u16,
-    speed: u32,
-    along: i64,
-    across: i64,
-) -> usize
-    requires { 96 ≤ length buffer.old }
-    ensures page { buffer.new ≡ pasted buffer.old 0 (lines edition rows speed along across) }
-    ensures end { result ≡ length (lines edition rows speed along across) }
+// What a record comes to, where there is room for its report.
+fn tally(bytes: &[u8]) -> Result<Tally, RecordFault>
+    ensures { result ≡ outcome_of 96 bytes.now }
 {
-    let a = put_line(buffer, 0, b"edition ", edition.number() as u64);
-    let b = put_line(buffer, a, b"rows ", rows as u64);
-    let c = put_line(buffer, b, b"speed ", speed as u64);
-    let d = put_signed_line(buffer, c, b"along ", along);
-    put_signed_line(buffer, d, b"across ", across)
+    if bytes.len() > LONGEST {
+        return Err(Cause::TooLong.at(0));
+    }
+    read_record(bytes)
 }
 
 // The report of a record, from the buffer's first byte on, and its length; a refusal writes nothing.
@@ -40,39 +30,10 @@ pub fn report(bytes: &[u8], buffer: &mut [u8]) -> Result<usize, RecordFault>
     ensures means { Means (length buffer.old) bytes.now (outcome_of (length buffer.old) bytes.now) }
 {
     if buffer.len() < ROOM {
-        return Err(RecordFault {
-            cause: Cause::Buffer,
-            offset: 0,
-        });
+        return Err(Cause::Buffer.at(0));
     }
-    if bytes.len() > LONGEST {
-        return Err(RecordFault {
-            cause: Cause::TooLong,
-            offset: 0,
-        });
-    }
-    let tally = read_record(bytes)?;
-    Ok(write_lines(
-        buffer,
-        tally.edition,
-        tally.rows,
-        tally.speed,
-        tally.along,
-        tally.across,
-    ))
-}
-
-// The line of a refusal with this number at this place.
-fn write_refusal(buffer: &mut [u8], number: u8, offset: usize) -> usize
-    requires { 96 ≤ length buffer.old }
-    ensures page { buffer.new ≡ pasted buffer.old 0 (refusal number offset) }
-    ensures end { result ≡ length (refusal number offset) }
-{
-    let a = put(buffer, 0, b"refused ");
-    let b = put_decimal(buffer, a, number as u64);
-    let c = put(buffer, b, b" at ");
-    let d = put_decimal(buffer, c, offset as u64);
-    put(buffer, d, b"\n")
+    let tally = tally(bytes)?;
+    Ok(lay(&tally.page(), buffer))
 }
 
 // The line of a refusal, from the buffer's first byte on, and its length.
@@ -80,10 +41,17 @@ pub fn refusal_line(fault: RecordFault, buffer: &mut [u8]) -> Result<usize, Reco
     ensures { Told fault result buffer.old buffer.new }
 {
     if buffer.len() < ROOM {
-        return Err(RecordFault {
-            cause: Cause::Buffer,
-            offset: 0,
-        });
+        return Err(Cause::Buffer.at(0));
     }
-    Ok(write_refusal(buffer, fault.cause.number(), fault.offset))
+    Ok(lay(&fault.page(), buffer))
+}
+
+// What is printed of a record: its report, or the line of its refusal.
+pub fn printed(bytes: &[u8]) -> Page
+    ensures { result.bytes ≡ text_of (outcome_of 96 bytes.now) }
+{
+    match tally(bytes) {
+        Ok(tally) => tally.page(),
+        Err(fault) => fault.page(),
+    }
 }

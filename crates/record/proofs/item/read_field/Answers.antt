@@ -1,6 +1,6 @@
 use Rattle.std.proofs.Common.{sym, ◌∙◌}
 use Rattle.std.proofs.lemmas.Result.{err_from_is_err_and}
-use Rattle.record.proofs.Fields.{field-short, field-tag, field-length, field-value, field-read}
+use Rattle.record.proofs.Cuts.{field-short, field-tag, field-length, field-value, field-read}
 use Rattle.record.proofs.item.read_field.Goals as goal
 
 pub returns-in_err-field : goal.returns-in_err-field
