@@ -2,3 +2,4 @@ pub mod Meaning
 pub mod Editions
 pub mod EditionsLemmas
 pub mod Mounts
+pub mod Quarters

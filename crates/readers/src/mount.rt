@@ -1,12 +1,13 @@
 // Mounts: how a module sits in the car. A mount holds any reader and is a reader again, so mounts pile.
-ghost use Rattle.std.specs.Prelude.{◌≡◌, ◌<◌, ◌≤◌, MatchResult};
+ghost use Rattle.std.specs.Prelude.{◌≡◌, ◌<◌, MatchResult};
 ghost use Rattle.readers.specs.Meaning.{turned_steps, turned_answer, mirrored_steps, mirrored_answer};
 ghost use Rattle.readers.specs.Mounts.{turned-keeps, mirrored-keeps};
+ghost use Rattle.readers.specs.Quarters.{quarter_count, quarters_of};
 
 use crate::reader::{Reader, ReaderFault};
 
 // Why a mount is not made.
-#[derive(Clone, Copy)]
+#[derive(Clone, Copy, Debug, PartialEq, Eq)]
 pub enum MountFault {
     NoQuarter,
 }
@@ -22,36 +23,76 @@ impl MountFault {
     }
 }
 
+// Quarter turns of a module.
+#[derive(Clone, Copy, Debug, PartialEq, Eq)]
+pub enum Quarters {
+    Zero,
+    One,
+    Two,
+    Three,
+}
+
+impl Quarters {
+    // How many they are.
+    pub fn count(self) -> u8
+        ensures { result ≡ quarter_count self }
+    {
+        self as u8
+    }
+}
+
+impl TryFrom<u8> for Quarters {
+    type Error = MountFault;
+
+    ghost try_from_gives = { λ n r. r ≡ quarters_of n };
+
+    fn try_from(n: u8) -> Result<Quarters, MountFault> {
+        match n {
+            0 => Ok(Quarters::Zero),
+            1 => Ok(Quarters::One),
+            2 => Ok(Quarters::Two),
+            3 => Ok(Quarters::Three),
+            _ => Err(MountFault::NoQuarter),
+        }
+    }
+}
+
 // A module turned by quarter turns: its steps and 16 for each quarter.
 #[derive(Drop)]
 pub struct Turned<R> {
     below: R,
-    quarters: u8,
-    ghost few: { quarters ≤ 3 },
+    quarters: Quarters,
+}
+
+impl<R> Turned<R> {
+    // Turned by these quarters.
+    pub fn by(below: R, quarters: Quarters) -> Turned<R>
+        ensures below { result.below ≡ below }
+        ensures quarters { result.quarters ≡ quarters }
+    {
+        Turned { below, quarters }
+    }
 }
 
 impl<R: Drop> Turned<R> {
     // Made for 0 to 3 quarters; refused otherwise.
     pub fn new(below: R, quarters: u8) -> Result<Turned<R>, MountFault>
-        ensures { MatchResult result (λ m. (m.below ≡ below) × (m.quarters ≡ quarters)) (λ _. 3 < quarters) }
+        ensures { MatchResult result (λ m. (m.below ≡ below) × (quarter_count m.quarters ≡ quarters)) (λ _. 3 < quarters) }
     {
-        if quarters > 3 {
-            return Err(MountFault::NoQuarter);
-        }
-        Ok(Turned { below, quarters })
+        Ok(Turned::by(below, Quarters::try_from(quarters)?))
     }
 }
 
 impl<R: Reader> Reader for Turned<R> {
-    ghost steps = { λ m w. turned_steps m.quarters (R.Reader.steps m.below w) };
+    ghost steps = { λ m w. turned_steps (quarter_count m.quarters) (R.Reader.steps m.below w) };
 
-    ghost answer = { λ m w. turned_answer m.quarters (R.Reader.answer m.below w) };
+    ghost answer = { λ m w. turned_answer (quarter_count m.quarters) (R.Reader.answer m.below w) };
 
-    ghost meaning = { λ r w h. turned-keeps r.quarters (R.Reader.steps r.below w) (R.Reader.answer r.below w) (R.Reader.meaning r.below w h) };
+    ghost meaning = { λ r w h. turned-keeps (quarter_count r.quarters) (R.Reader.steps r.below w) (R.Reader.answer r.below w) (R.Reader.meaning r.below w h) };
 
     fn read(&self, word: u32) -> Result<(u8, f64), ReaderFault> {
         let (k, y) = self.below.read(word)?;
-        Ok(((k + 16 * self.quarters) % 64, y))
+        Ok(((k + 16 * self.quarters.count()) % 64, y))
     }
 }
 

@@ -3,7 +3,7 @@ ghost use Rattle.std.specs.Prelude.{◌≡◌, ℕ, ◌^◌, ◌<◌};
 ghost use Rattle.readers.specs.Meaning.{Steps, Reading, Keeps};
 
 // Why a word is not read.
-#[derive(Clone, Copy)]
+#[derive(Clone, Copy, Debug, PartialEq, Eq)]
 pub enum ReaderFault {
     NoAngle,
 }
@@ -26,6 +26,7 @@ pub trait Reader {
     // What reading a word answers, alike each time.
     ghost answer: { Self → ℕ → Reading };
 
+    // The pair (k, y). Kept a pair: what readers and reducers answer is taken apart at once by each caller.
     fn read(&self, word: u32) -> Result<(u8, f64), ReaderFault>
         ensures { result ≡ answer self.now word };
 
