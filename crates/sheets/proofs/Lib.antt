@@ -1,6 +1,5 @@
 pub mod Bools
 pub mod Ints
-pub mod Tables
 pub mod Sheets
 pub mod Orders
 pub mod Sums

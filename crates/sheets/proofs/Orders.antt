@@ -7,9 +7,14 @@ use Rattle.std.proofs.lemmas.List.{get_or-map, length-map}
 use Rattle.sheets.specs.declared.row.Row.{Row}
 use Rattle.sheets.specs.Rows.{among, distinct, samples}
 use Rattle.sheets.specs.Sheets.{InAnyOrder, corrected, without}
-use Rattle.sheets.specs.Standing.{Found, removed}
+use Rattle.std.specs.List.{swap_remove}
 use Rattle.sheets.specs.Rewrite.{rewritten}
 use Rattle.sheets.proofs.Bools.{found_among}
+
+-- the row of the sample s is at place i
+pub record Found (s : ℕ) (rows : List Row) (i : ℕ) : Type 0 where
+  pub within : i < length rows
+  pub same : get_or (samples rows) i 0 ≡ s
 
 abbrev same : {X : Type 0} {xs ys : List X} → xs ≡ ys → InAnyOrder xs ys
 same {X} {xs} {ys} e = subst (λ l. InAnyOrder xs l) e (Permᴰ.refl xs)
@@ -44,7 +49,7 @@ among-order s (Permᴰ.cons {a = a} {b = b} {l₁ = l₁} {l₂ = l₂} e d) = a
 among-order s (Permᴰ.swap {a = a} {b = b} {a' = a'} {b' = b'} {l = l} e f) = or_swap (eqb s a) (eqb s b) (among s l) ∙ ap (λ x. eqb s x || (eqb s a || among s l)) f ∙ ap (λ x. eqb s a' || (eqb s x || among s l)) e
 among-order s (Permᴰ.trans d e) = among-order s d ∙ among-order s e
 
-eqb-sym : (a b : ℕ) → eqb a b ≡ eqb b a
+pub eqb-sym : (a b : ℕ) → eqb a b ≡ eqb b a
 eqb-sym a b = elim (eqb a b) as (λ t. eqb a b ≡ t → t ≡ eqb b a) [ true ↦ λ e. sym (eq-eqb b a (sym (eqb-true a b e))) | false ↦ λ e. sym (ne_eqb b a (λ q. eqb-false a b e (sym q))) ] refl
 
 and-swap : (a b p q r : Bool) → ((not (a || p)) && ((not q) && r)) ≡ ((not (a || q)) && ((not p) && r))
@@ -95,7 +100,7 @@ taken_out x d [] (suc i) h = absurd (omega arith)
 taken_out x d (y ∷ ys) zero h = Permᴰ.cons refl (Permᴰ.trans (last-first y ys) (Permᴰ.cons refl (same (sym (front-is y ys)))))
 taken_out x d (y ∷ ys) (suc i) h = Permᴰ.trans (Permᴰ.cons refl (taken_out y d ys i (omega arith))) (Permᴰ.swap refl refl)
 
-pub removed-order : (rows : List Row) (i : ℕ) (d : Row) → i < length rows → InAnyOrder rows (get_or rows i d ∷ removed rows i d)
+pub removed-order : (rows : List Row) (i : ℕ) (d : Row) → i < length rows → InAnyOrder rows (get_or rows i d ∷ swap_remove rows i d)
 removed-order [] i d h = absurd (omega arith)
 removed-order (x ∷ xs) i d h =
     let e : length (x ∷ xs) - 1 ≡ length xs = omega arith in
@@ -108,19 +113,19 @@ without-none (r ∷ rows) s h =
     let p = or_parts (eqb s r.sample) (among s (samples rows)) h in
     cond-true (not (eqb r.sample s)) _ _ (not_from_false (eqb r.sample s) (eqb-sym r.sample s ∙ p.0)) ∙ ap (λ l. r ∷ l) (without-none rows s p.1)
 
-pub withdrawn-order : (rows : List Row) (s i : ℕ) (d : Row) → distinct (samples rows) ≡ true → Found s rows i → InAnyOrder (without rows s) (removed rows i d)
+pub withdrawn-order : (rows : List Row) (s i : ℕ) (d : Row) → distinct (samples rows) ≡ true → Found s rows i → InAnyOrder (without rows s) (swap_remove rows i d)
 withdrawn-order rows s i d u f =
     let x : Row = get_or rows i d in
     let o = removed-order rows i d f.within in
     let e : x.sample ≡ s = sym (get_or-map (λ (r : Row). r.sample) rows i d 0 f.within) ∙ f.same in
-    let q = and_parts (not (among x.sample (samples (removed rows i d)))) (distinct (samples (removed rows i d))) (sym (distinct-order (Permᴰ.map (λ (r : Row). r.sample) o)) ∙ u) in
-    let n : among s (samples (removed rows i d)) ≡ false = ap (λ z. among z (samples (removed rows i d))) (sym e) ∙ not-true _ q.0 in
+    let q = and_parts (not (among x.sample (samples (swap_remove rows i d)))) (distinct (samples (swap_remove rows i d))) (sym (distinct-order (Permᴰ.map (λ (r : Row). r.sample) o)) ∙ u) in
+    let n : among s (samples (swap_remove rows i d)) ≡ false = ap (λ z. among z (samples (swap_remove rows i d))) (sym e) ∙ not-true _ q.0 in
     Permᴰ.trans (kept-by-order (λ r. not (eqb r.sample s)) o)
-    (same (cond-false (not (eqb x.sample s)) _ _ (not_from_true (eqb x.sample s) (eq-eqb x.sample s e)) ∙ without-none (removed rows i d) s n))
+    (same (cond-false (not (eqb x.sample s)) _ _ (not_from_true (eqb x.sample s) (eq-eqb x.sample s e)) ∙ without-none (swap_remove rows i d) s n))
 
-pub withdrawn-distinct : (rows : List Row) (i : ℕ) (d : Row) → i < length rows → distinct (samples rows) ≡ true → distinct (samples (removed rows i d)) ≡ true
+pub withdrawn-distinct : (rows : List Row) (i : ℕ) (d : Row) → i < length rows → distinct (samples rows) ≡ true → distinct (samples (swap_remove rows i d)) ≡ true
 withdrawn-distinct rows i d h u =
-    (and_parts (not (among (get_or rows i d).sample (samples (removed rows i d)))) (distinct (samples (removed rows i d))) (sym (distinct-order (Permᴰ.map (λ (r : Row). r.sample) (removed-order rows i d h))) ∙ u)).1
+    (and_parts (not (among (get_or rows i d).sample (samples (swap_remove rows i d)))) (distinct (samples (swap_remove rows i d))) (sym (distinct-order (Permᴰ.map (λ (r : Row). r.sample) (removed-order rows i d h))) ∙ u)).1
 
 corrected-none : (rows : List Row) (s : ℕ) (new : Row) → among s (samples rows) ≡ false → corrected rows s new ≡ rows
 corrected-none [] s new h = refl

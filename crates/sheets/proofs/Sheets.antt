@@ -1,9 +1,12 @@
 -- What the questions come to on a sheet.
-use Rattle.std.proofs.Common.{◌≡◌, ℕ, ◌<◌, ◌≤◌, true, false, ltb, List, [], ◌∷◌, ◌++◌, length, take, ℤ, is_some, Some, None, Ok, Err, Option, sym, refl, ap, ◌∙◌, arith, w32, SFits, to_z, of_z, MatchOption}
+use Rattle.std.proofs.Common.{◌≡◌, ℕ, ◌+◌, ◌<◌, ◌≤◌, Bool, true, false, cond, ◌||◌, eqb, ltb, List, [], ◌∷◌, ◌++◌, length, ℤ, pos, is_some, is_ok, Some, None, Ok, Err, Option, Result, MatchResult, position, sym, refl, ap, ◌∙◌, arith, w32, SFits, to_z, of_z}
+use Rattle.std.specs.List.{position_from}
+use Rattle.std.proofs.lemmas.Iterator.Adapters.{position_from-zero}
+use Rattle.std.proofs.lemmas.List.Quantifiers.{position-Some}
 use lib.Ieee.{Float}
 use Rattle.std.specs.List.{ContainsAt as Has}
-use Rattle.std.proofs.lemmas.Bool.{cond-true, cond-false, lt-ltb, le-ltb}
-use Rattle.std.proofs.lemmas.List.{get_or-map, length-map, length-take-le, map_push}
+use Rattle.std.proofs.lemmas.Bool.{cond-true, cond-false, lt-ltb, le-ltb, eqb-true}
+use Rattle.std.proofs.lemmas.List.{get_or-map, length-map, map_push}
 use Rattle.exact.specs.Fraction.{Fraction}
 use Rattle.readers.specs.Meaning.{Steps, Reading, Keeps}
 use Rattle.sheets.specs.declared.fault.SheetFault.{SheetFault}
@@ -14,8 +17,12 @@ use Rattle.sheets.specs.Book.{may_enter, may_correct, may_withdraw, may_place}
 use Rattle.sheets.specs.Sheets.{row_for}
 use Rattle.shares.specs.Share.{sine_share, cosine_share}
 use Rattle.std.proofs.lemmas.Int.{to_z-of_z}
-use Rattle.sheets.specs.Standing.{Found}
 use Rattle.sheets.proofs.Bools.{found_among, distinct_push}
+use Rattle.sheets.proofs.Orders.{eqb-sym, Found}
+
+-- any row
+abbrev pub none_row : Row
+none_row = record { sample = 0; speed = 0; word = 0; sine = pos 0; cosine = pos 0 }
 
 pub has-angle : (o : Steps) (a : Reading) (x : ℕ × Float) → Keeps o a → Ok x ≡ a → (u : Fraction) × (o ≡ Some u)
 has-angle None (Ok y) x k e = absurd k
@@ -35,13 +42,21 @@ placed rs i h = sym (cond-true (ltb i (length (samples rs))) _ _ (lt-ltb i (leng
 pub unplaced : (rs : List Row) (i : ℕ) (e : SheetFault) → e ≡ NoPlace → length rs ≤ i → Err e ≡ may_place (samples rs) i
 unplaced rs i e p h = ap Err p ∙ sym (cond-false (ltb i (length (samples rs))) _ _ (le-ltb i (length (samples rs)) (omega (arith, length-map rs (λ (x : Row). x.sample)))))
 
-pub taken_if : (o : Option ℕ) (rows : List Row) (s : ℕ) → MatchOption o (among s (samples rows) ≡ false) (λ i. Found s rows i) → is_some o ≡ true → among s (samples rows) ≡ true
-taken_if (Some i) rows s f e = there rows s i f
-taken_if None rows s f e = absurd (let z : ◌≡◌ {A = ℕ} 0 1 = cc in omega arith)
+-- a sample has a place exactly if it stands
+at-first : (s : ℕ) (rows : List Row) (i : ℕ) → is_some (position_from (λ r. eqb r.sample s) i rows) ≡ among s (samples rows)
+at-first s [] i = refl
+at-first s (r ∷ rows) i =
+    let rest = position_from (λ (r : Row). eqb r.sample s) (i + 1) rows in
+    let go : (t : Bool) → is_some (cond t (Some i) rest) ≡ (t || among s (samples rows)) = λ t. elim t as (λ t. is_some (cond t (Some i) rest) ≡ (t || among s (samples rows))) [ true ↦ refl | false ↦ at-first s rows (i + 1) ] in
+    go (eqb r.sample s) ∙ ap (λ t. t || among s (samples rows)) (eqb-sym r.sample s)
 
-pub new_if : (o : Option ℕ) (rows : List Row) (s : ℕ) → MatchOption o (among s (samples rows) ≡ false) (λ i. Found s rows i) → is_some o ≡ false → among s (samples rows) ≡ false
-new_if (Some i) rows s f e = absurd (let z : ◌≡◌ {A = ℕ} 0 1 = cc in omega arith)
-new_if None rows s f e = f
+pub place-among : (s : ℕ) (rows : List Row) (o : Option ℕ) → o ≡ position (λ r. eqb r.sample s) rows → is_some o ≡ among s (samples rows)
+place-among s rows o e = ap is_some (e ∙ position_from-zero (λ (r : Row). eqb r.sample s) rows) ∙ at-first s rows 0
+
+pub place-found : (s : ℕ) (rows : List Row) (i : ℕ) → Some i ≡ position (λ r. eqb r.sample s) rows → Found s rows i
+place-found s rows i e =
+    let p = position-Some (λ (r : Row). eqb r.sample s) rows i none_row (sym e) in
+    record { within = p.0; same = get_or-map (λ (r : Row). r.sample) rows i none_row 0 p.0 ∙ eqb-true _ s p.1 }
 
 module _ (o : Steps) (u : Fraction) (angle : o ≡ Some u) (ss : List ℕ) (s : ℕ) where
   pub enter-taken : among s ss ≡ true → Err Taken ≡ may_enter o ss s
@@ -52,10 +67,6 @@ module _ (o : Steps) (u : Fraction) (angle : o ≡ Some u) (ss : List ℕ) (s : 
 
   pub enter-ok : among s ss ≡ false → length ss < 256 → Ok tt ≡ may_enter o ss s
   enter-ok h l = sym (ap (λ p. may_enter p ss s) angle ∙ cond-false (among s ss) _ _ h ∙ cond-true (ltb (length ss) 256) _ _ (lt-ltb (length ss) 256 l))
-
--- the samples of the first n rows of an array of 256
-pub count-samples : (rows : List Row) (n : ℕ) → n ≤ length rows → length (samples (take n rows)) ≡ n
-count-samples rows n h = length-map (take n rows) (λ r. r.sample) ∙ length-take-le n rows h
 
 pub distinct_more : (rows more : List Row) (r : Row) → more ≡ rows ++ r ∷ [] → distinct (samples rows) ≡ true → among r.sample (samples rows) ≡ false → distinct (samples more) ≡ true
 distinct_more rows more r e d a = ap (λ l. distinct (samples l)) e ∙ ap distinct (map_push (λ r. r.sample) rows r) ∙ distinct_push r.sample (samples rows) d a
@@ -75,3 +86,13 @@ withdraw_ok ss s h = sym (cond-true (among s ss) _ _ h)
 
 pub withdraw_absent : (ss : List ℕ) (s : ℕ) → among s ss ≡ false → Err Absent ≡ may_withdraw ss s
 withdraw_absent ss s h = sym (cond-false (among s ss) _ _ h)
+
+pub correct_absent : (o : Steps) (u : Fraction) (angle : o ≡ Some u) (ss : List ℕ) (s : ℕ) → among s ss ≡ false → Err Absent ≡ may_correct o ss s
+correct_absent o u angle ss s h = sym (ap (λ p. may_correct p ss s) angle ∙ cond-false (among s ss) _ _ h)
+
+-- asking for a sample's row asks what withdrawing it does
+pub asked-row : (r : Result Row SheetFault) (q : Result (Unit {0}) SheetFault) (P : Row → Type 0) (rs : List Row) (s : ℕ) → MatchResult r (λ row. (row.sample ≡ s) × Has rs row) (λ e. (e ≡ Absent) × (among s (samples rs) ≡ false))
+    → MatchResult r P (λ e. q ≡ Err e) → is_ok q ≡ is_ok r → q ≡ may_withdraw (samples rs) s
+asked-row (Ok row) (Ok u) P rs s h m v = withdraw_ok (samples rs) s (has_there rs row s h.0 h.1)
+asked-row (Ok row) (Err e) P rs s h m v = absurd (let z : ◌≡◌ {A = ℕ} 0 1 = cc in omega arith)
+asked-row (Err e) q P rs s h m v = m ∙ ap Err h.0 ∙ withdraw_absent (samples rs) s h.1

@@ -1,7 +1,6 @@
 pub mod Refusals
 pub mod Rewrite
 pub mod Rows
-pub mod Standing
 pub mod Book
 pub mod Sheets
 pub mod Runs

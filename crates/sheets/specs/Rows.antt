@@ -1,6 +1,7 @@
 -- Lists of rows: their samples and their totals. Definitions only.
 use Rattle.std.specs.Prelude.{ℕ, Bool, true, false, not, ◌&&◌, ◌||◌, List, [], ◌∷◌, map, ℤ, pos, ◌+ℤ◌, ◌*ℤ◌, fold, sum_by, ◌==◌}
 use Rattle.sheets.specs.declared.row.Row.{Row}
+use Rattle.sheets.specs.declared.totals.Totals.{Totals}
 
 -- the rows' sample numbers
 abbrev pub samples : List Row → List ℕ
@@ -27,3 +28,7 @@ along_of rows = fold (λ a r. a +ℤ pos r.speed *ℤ r.cosine) (pos 0) rows
 -- the sum of speed × sine share
 abbrev pub across_of : List Row → ℤ
 across_of rows = fold (λ a r. a +ℤ pos r.speed *ℤ r.sine) (pos 0) rows
+
+-- the three
+abbrev pub row_totals : List Row → Totals
+row_totals rows = record { speed = speed_of rows; along = along_of rows; across = across_of rows }

@@ -1,12 +1,12 @@
 -- A sheet by its rows, and what entering, correcting and withdrawing do to them. Definitions only.
-use Rattle.std.specs.Prelude.{ℕ, cond, not, List, map, ℤ, pos, Ok, Err, filter, ◌==◌}
+use Rattle.std.specs.Prelude.{◌≡◌, ℕ, cond, not, List, map, ℤ, pos, Ok, Err, filter, Result, OnErr, ◌==◌}
 use mathlib.Core.List.{Permᴰ}
 use Rattle.readers.specs.Meaning.{Reading}
 use Rattle.shares.specs.Share.{sine_share, cosine_share}
 use Rattle.sheets.specs.declared.row.Row.{Row}
 use Rattle.sheets.specs.declared.sheet.Sheet.{Sheet}
 use Rattle.sheets.specs.declared.totals.Totals.{Totals}
-use Rattle.sheets.specs.Standing.{standing}
+use Rattle.sheets.specs.Rows.{row_totals}
 
 -- the same elements, each as often, in any order
 abbrev pub InAnyOrder : {X : Type 0} → List X → List X → Type 0
@@ -14,11 +14,16 @@ InAnyOrder xs ys = Permᴰ xs ys
 
 -- the rows of a sheet, in the order of their places
 abbrev pub rows : {R : Type 0} → Sheet R → List Row
-rows s = standing s.table
+rows s = s.table
 
--- the totals that a sheet keeps
+-- the totals that a sheet keeps: those of its rows
 abbrev pub totals_of : {R : Type 0} → Sheet R → Totals
-totals_of s = s.table.totals
+totals_of s = row_totals s.table
+
+-- a call changes the rows alone, and where it is refused nothing
+pub record RowsAlone {R X E : Type 0} (result : Result X E) (old new : Sheet R) : Type 0 where
+  pub reader : new.reader ≡ old.reader
+  pub same : OnErr result (new ≡ old)
 
 -- the sine share of what a reader answered
 abbrev pub read_sine : Reading → ℤ

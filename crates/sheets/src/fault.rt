@@ -5,7 +5,7 @@ ghost use Rattle.sheets.specs.Refusals.{sheet_number};
 use readers::reader::ReaderFault;
 
 // Why a sheet refuses a call.
-#[derive(Clone, Copy)]
+#[derive(Clone, Copy, Debug, PartialEq, Eq)]
 pub enum SheetFault {
     // the reader's refusal, unaltered
     Unread(ReaderFault),
@@ -34,6 +34,7 @@ impl SheetFault {
     }
 }
 
+// Kept by hand: what a sheet answers names this fault, and a derived `From` has no clause that does.
 impl From<ReaderFault> for SheetFault {
     ghost from_gives = { λ e f. f ≡ Unread e };
 

@@ -1,8 +1,11 @@
 ghost use Rattle.std.specs.Prelude.{◌≡◌};
-ghost use Rattle.sheets.specs.Rewrite.{rewritten};
+ghost use Rattle.sheets.specs.Rewrite.{entry_row, rewritten};
+
+use crate::book::Entry;
+use shares::share::Shares;
 
 // A row: its sample's number, speed in cm/s, heading word, and the word's shares.
-#[derive(Clone, Copy)]
+#[derive(Clone, Copy, Debug, Default, PartialEq, Eq)]
 pub struct Row {
     pub sample: u16,
     pub speed: u16,
@@ -12,13 +15,26 @@ pub struct Row {
 }
 
 impl Row {
-    // All but the sample anew.
-    pub fn rewrite(&mut self, speed: u16, word: u32, sine: i32, cosine: i32)
-        ensures { self.new ≡ rewritten self.old speed word sine cosine }
+    // An entry with its word's shares.
+    pub fn new(entry: Entry, shares: Shares) -> Row
+        ensures { result ≡ entry_row entry shares }
     {
-        self.speed = speed;
-        self.word = word;
-        self.sine = sine;
-        self.cosine = cosine;
+        Row {
+            sample: entry.sample,
+            speed: entry.speed,
+            word: entry.word,
+            sine: shares.sine,
+            cosine: shares.cosine,
+        }
+    }
+
+    // All but the sample anew.
+    pub fn rewrite(&mut self, entry: Entry, shares: Shares)
+        ensures { self.new ≡ rewritten self.old entry.speed entry.word shares.sine shares.cosine }
+    {
+        self.speed = entry.speed;
+        self.word = entry.word;
+        self.sine = shares.sine;
+        self.cosine = shares.cosine;
     }
 }

@@ -1,18 +1,33 @@
-// The rows of a sheet with their totals. A table keeps no invariant: the sheet above it does.
-ghost use Rattle.std.specs.Prelude.{◌≡◌, ℕ, ◌+◌, ◌-◌, ◌*◌, ◌^◌, ◌<◌, ◌≤◌, false, [], ◌∷◌, ◌++◌, length, ℤ, pos, ◌*ℤ◌, MatchOption, slice_index_or, slice_set, unsigned_abs};
+// The rows of a sheet with their totals. A clause sees a table as the list of its rows.
+ghost use Rattle.std.specs.Prelude.{◌≡◌, ◌==◌, ◌+◌, ◌*◌, ◌^◌, ◌<◌, ◌≤◌, [], ◌∷◌, ◌++◌, length, pos, ◌*ℤ◌, position, slice_index_or, slice_set, unsigned_abs};
+ghost use Rattle.std.specs.List.{swap_remove};
 ghost use Rattle.sheets.specs.declared.row.Row.{Row};
 ghost use Rattle.sheets.specs.Rewrite.{rewritten};
-ghost use Rattle.sheets.specs.Rows.{among, samples, speed_of, along_of, across_of};
-ghost use Rattle.sheets.specs.Standing.{standing, Found, removed, Kept};
+ghost use Rattle.sheets.specs.Rows.{row_totals};
 
+use crate::book::Entry;
 use crate::row::Row;
 use crate::totals::Totals;
+use arrayvec::ArrayVec;
+use shares::share::Shares;
+use std::marker::Model;
 
 #[derive(Drop)]
 pub(crate) struct Table {
-    rows: [Row; 256],
-    count: usize,
+    rows: ArrayVec<Row, 256>,
     totals: Totals,
+}
+
+impl Model for Table {
+    ghost use Rattle.std.specs.Prelude.{◌≡◌, List};
+    ghost use Rattle.sheets.specs.declared.row.Row.{Row};
+    ghost use Rattle.sheets.specs.Rows.{row_totals};
+
+    ghost Value = { List Row };
+
+    ghost view = { λ t. t.rows.items };
+
+    ghost invariant = { λ t. t.totals ≡ row_totals t.rows.items };
 }
 
 // A row's part of a total.
@@ -26,9 +41,7 @@ fn part(speed: u16, share: i32) -> i64
 // The totals of the rows, in one pass.
 fn totals_of(rows: &[Row]) -> Totals
     requires { length rows.now ≤ 256 }
-    ensures speed { result.speed ≡ speed_of rows.now }
-    ensures along { result.along ≡ along_of rows.now }
-    ensures across { result.across ≡ across_of rows.now }
+    ensures { result ≡ row_totals rows.now }
 {
     let mut speed: u32 = 0;
     let mut along: i64 = 0;
@@ -47,107 +60,63 @@ fn totals_of(rows: &[Row]) -> Totals
 
 impl Table {
     pub(crate) fn new() -> Table
-        ensures rows { standing result ≡ [] }
-        ensures kept { Kept result }
+        ensures { result ≡ [] }
     {
-        let empty = Row {
-            sample: 0,
-            speed: 0,
-            word: 0,
-            sine: 0,
-            cosine: 0,
-        };
         Table {
-            rows: [empty; 256],
-            count: 0,
-            totals: Totals {
-                speed: 0,
-                along: 0,
-                across: 0,
-            },
+            rows: ArrayVec::new(),
+            totals: Totals::default(),
         }
     }
 
     pub(crate) fn count(&self) -> usize
-        requires { self.now.count ≤ 256 }
-        ensures { result ≡ length (standing self.now) }
+        ensures count { result ≡ length self.now }
+        ensures fits { result ≤ 256 }
     {
-        self.standing().len()
+        self.rows.len()
     }
 
     pub(crate) fn totals(&self) -> Totals
-        ensures { result ≡ self.now.totals }
+        ensures { result ≡ row_totals self.now }
     {
         self.totals
     }
 
+    // The place of the sample's row.
     pub(crate) fn place(&self, sample: u16) -> Option<usize>
-        requires { self.now.count ≤ 256 }
-        ensures { MatchOption result (among sample (samples (standing self.now)) ≡ false) (λ i. Found sample (standing self.now) i) }
+        ensures { result ≡ position (λ row. row.sample == sample) self.now }
     {
-        let rows = self.standing();
-        for (i, row) in rows.iter().enumerate() {
-            if row.sample == sample {
-                return Some(i);
-            }
-        }
-        None
+        self.rows.iter().position(|row| row.sample == sample)
     }
 
     pub(crate) fn at(&self, i: usize) -> Row
-        requires { (i < self.now.count) × (self.now.count ≤ 256) }
-        ensures { (d : Row) → result ≡ slice_index_or (standing self.now) i d }
+        requires { i < length self.now }
+        ensures { (d : Row) → result ≡ slice_index_or self.now i d }
     {
         self.rows[i]
     }
 
-    fn standing(&self) -> &[Row]
-        requires { self.now.count ≤ 256 }
-        ensures { result.now ≡ standing self.now }
-    {
-        &self.rows[0..self.count]
-    }
-
-    // The totals anew.
-    fn recount(&mut self)
-        requires { self.old.count ≤ 256 }
-        ensures rows { standing self.new ≡ standing self.old }
-        ensures kept { Kept self.new }
-    {
-        let totals = totals_of(self.standing());
-        self.totals = totals;
-    }
-
     pub(crate) fn push(&mut self, row: Row)
-        requires { (length (standing self.old) < 256) × (self.old.count ≤ 256) }
-        ensures rows { standing self.new ≡ standing self.old ++ row ∷ [] }
-        ensures kept { Kept self.new }
+        requires { length self.old < 256 }
+        ensures { self.new ≡ self.old ++ row ∷ [] }
     {
-        let n = self.count;
-        self.rows[n] = row;
-        self.count = n + 1;
-        self.recount();
+        self.rows.push(row);
+        self.totals = totals_of(&self.rows);
     }
 
-    pub(crate) fn rewrite(&mut self, i: usize, speed: u16, word: u32, sine: i32, cosine: i32)
-        requires { (i < self.old.count) × (self.old.count ≤ 256) }
-        ensures rows { (d : Row) → standing self.new ≡ slice_set (standing self.old) i (rewritten (slice_index_or (standing self.old) i d) speed word sine cosine) }
-        ensures kept { Kept self.new }
+    pub(crate) fn rewrite(&mut self, i: usize, entry: Entry, shares: Shares)
+        requires { i < length self.old }
+        ensures { (d : Row) → self.new ≡ slice_set self.old i (rewritten (slice_index_or self.old i d) entry.speed entry.word shares.sine shares.cosine) }
     {
-        self.rows[i].rewrite(speed, word, sine, cosine);
-        self.recount();
+        self.rows[i].rewrite(entry, shares);
+        self.totals = totals_of(&self.rows);
     }
 
     // The last row comes to the place of the removed one.
     pub(crate) fn remove(&mut self, i: usize)
-        requires { (i < self.old.count) × (self.old.count ≤ 256) }
-        ensures rows { (d : Row) → standing self.new ≡ removed (standing self.old) i d }
-        ensures kept { Kept self.new }
+        requires { i < length self.old }
+        ensures { (d : Row) → self.new ≡ swap_remove self.old i d }
     {
-        let n = self.count - 1;
-        let last = self.rows[n];
-        self.rows[i] = last;
-        self.count = n;
-        self.recount();
+        let _ = self.rows.swap_remove(i);
+        self.totals = totals_of(&self.rows);
     }
 }

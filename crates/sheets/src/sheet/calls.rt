@@ -4,15 +4,16 @@ ghost use Rattle.sheets.specs.declared.row.Row.{Row};
 ghost use Rattle.sheets.specs.declared.fault.SheetFault.TheVariants.{NoPlace, Absent};
 ghost use Rattle.sheets.specs.Rows.{samples, among, speed_of, along_of, across_of};
 ghost use Rattle.sheets.specs.Book.{allowed, may_enter, may_correct, may_withdraw};
-ghost use Rattle.sheets.specs.Sheets.{rows, row_for, corrected, without, InAnyOrder};
+ghost use Rattle.sheets.specs.Sheets.{rows, row_for, corrected, without, InAnyOrder, RowsAlone};
 
+use crate::book::Entry;
 use crate::fault::SheetFault;
 use crate::row::Row;
 use crate::row_table::Table;
 use crate::sheet::Sheet;
 use crate::totals::Totals;
 use readers::reader::Reader;
-use shares::share::{Shares, shares_of};
+use shares::share::shares_of;
 
 impl<R: Reader> Sheet<R> {
     pub fn new(reader: R) -> Sheet<R>
@@ -25,50 +26,41 @@ impl<R: Reader> Sheet<R> {
         }
     }
 
-    pub fn enter(&mut self, sample: u16, speed: u16, word: u32) -> Result<(), SheetFault>
-        ensures answer { result ≡ may_enter (R.Reader.steps self.old.reader word) (samples (rows self.old)) sample }
-        ensures rows { rows self.new ≡ allowed result (rows self.old ++ row_for (R.Reader.answer self.old.reader word) sample speed word ∷ []) (rows self.old) }
-        ensures reader { self.new.reader ≡ self.old.reader }
-        ensures same { OnErr result (self.new ≡ self.old) }
+    pub fn enter(&mut self, entry: Entry) -> Result<(), SheetFault>
+        ensures answer { result ≡ may_enter (R.Reader.steps self.old.reader entry.word) (samples (rows self.old)) entry.sample }
+        ensures rows { rows self.new ≡ allowed result (rows self.old ++ row_for (R.Reader.answer self.old.reader entry.word) entry.sample entry.speed entry.word ∷ []) (rows self.old) }
+        ensures rest { RowsAlone result self.old self.new }
     {
-        let (k, y) = self.reader.read(word)?;
-        if self.table.place(sample).is_some() {
+        let (k, y) = self.reader.read(entry.word)?;
+        if self.table.place(entry.sample).is_some() {
             return Err(SheetFault::Taken);
         }
         if self.table.count() == 256 {
             return Err(SheetFault::Full);
         }
-        let Shares { sine, cosine } = shares_of(k, y);
-        self.table.push(Row {
-            sample,
-            speed,
-            word,
-            sine,
-            cosine,
-        });
+        let shares = shares_of(k, y);
+        self.table.push(Row::new(entry, shares));
         Ok(())
     }
 
-    pub fn correct(&mut self, sample: u16, speed: u16, word: u32) -> Result<(), SheetFault>
-        ensures answer { result ≡ may_correct (R.Reader.steps self.old.reader word) (samples (rows self.old)) sample }
-        ensures rows { rows self.new ≡ allowed result (corrected (rows self.old) sample (row_for (R.Reader.answer self.old.reader word) sample speed word)) (rows self.old) }
-        ensures reader { self.new.reader ≡ self.old.reader }
-        ensures same { OnErr result (self.new ≡ self.old) }
+    pub fn correct(&mut self, entry: Entry) -> Result<(), SheetFault>
+        ensures answer { result ≡ may_correct (R.Reader.steps self.old.reader entry.word) (samples (rows self.old)) entry.sample }
+        ensures rows { rows self.new ≡ allowed result (corrected (rows self.old) entry.sample (row_for (R.Reader.answer self.old.reader entry.word) entry.sample entry.speed entry.word)) (rows self.old) }
+        ensures rest { RowsAlone result self.old self.new }
     {
-        let (k, y) = self.reader.read(word)?;
-        let Some(i) = self.table.place(sample) else {
+        let (k, y) = self.reader.read(entry.word)?;
+        let Some(i) = self.table.place(entry.sample) else {
             return Err(SheetFault::Absent);
         };
-        let Shares { sine, cosine } = shares_of(k, y);
-        self.table.rewrite(i, speed, word, sine, cosine);
+        let shares = shares_of(k, y);
+        self.table.rewrite(i, entry, shares);
         Ok(())
     }
 
     pub fn withdraw(&mut self, sample: u16) -> Result<(), SheetFault>
         ensures answer { result ≡ may_withdraw (samples (rows self.old)) sample }
         ensures rows { InAnyOrder (allowed result (without (rows self.old) sample) (rows self.old)) (rows self.new) }
-        ensures reader { self.new.reader ≡ self.old.reader }
-        ensures same { OnErr result (self.new ≡ self.old) }
+        ensures rest { RowsAlone result self.old self.new }
     {
         let Some(i) = self.table.place(sample) else {
             return Err(SheetFault::Absent);

@@ -2,7 +2,7 @@ ghost use Rattle.std.specs.Prelude.{◌≡◌, List, OnErr};
 ghost use Rattle.sheets.specs.declared.book.Entry.{Entry};
 ghost use Rattle.sheets.specs.Book.{asked, written, standing_after};
 ghost use Rattle.sheets.specs.Rows.{samples};
-ghost use Rattle.sheets.specs.Sheets.{rows};
+ghost use Rattle.sheets.specs.Sheets.{rows, RowsAlone};
 ghost use Rattle.sheets.specs.Runs.{Grown};
 
 use crate::book::Call;
@@ -14,21 +14,14 @@ use readers::reader::Reader;
 pub fn follow<R: Reader>(sheet: &mut Sheet<R>, call: Call) -> Result<(), SheetFault>
     ensures answer { result ≡ asked (R.Reader.steps sheet.old.reader) (samples (rows sheet.old)) call }
     ensures grown { (book : List Entry) → Grown (R.Reader.answer sheet.old.reader) book (rows sheet.old) → Grown (R.Reader.answer sheet.old.reader) (written (R.Reader.steps sheet.old.reader) book call) (rows sheet.new) }
-    ensures reader { sheet.new.reader ≡ sheet.old.reader }
-    ensures same { OnErr result (sheet.new ≡ sheet.old) }
+    ensures rest { RowsAlone result sheet.old sheet.new }
 {
     match call {
-        Call::Enter(e) => sheet.enter(e.sample, e.speed, e.word),
-        Call::Correct(e) => sheet.correct(e.sample, e.speed, e.word),
+        Call::Enter(entry) => sheet.enter(entry),
+        Call::Correct(entry) => sheet.correct(entry),
         Call::Withdraw(sample) => sheet.withdraw(sample),
-        Call::RowOf(sample) => {
-            let _ = sheet.row_of(sample)?;
-            Ok(())
-        }
-        Call::RowAt(place) => {
-            let _ = sheet.row_at(place)?;
-            Ok(())
-        }
+        Call::RowOf(sample) => sheet.row_of(sample).map(|_| ()),
+        Call::RowAt(place) => sheet.row_at(place).map(|_| ()),
         Call::Count | Call::Totals => Ok(()),
     }
 }

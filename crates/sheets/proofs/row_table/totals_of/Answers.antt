@@ -48,4 +48,7 @@ loop-row-preserved c =
 pub returns : goal.returns
 returns c =
     let e : take c.loop-row.row-index c.args.rows.now ≡ c.args.rows.now = take_all _ _ (omega arith) in
-    record { speed = c.loop-row.invariant.4 ∙ ap speed_of e; along = c.loop-row.invariant.5 ∙ ap along_of e; across = c.loop-row.invariant.6 ∙ ap across_of e }
+    let speed = c.loop-row.invariant.4 ∙ ap speed_of e in
+    let along = c.loop-row.invariant.5 ∙ ap along_of e in
+    let across = c.loop-row.invariant.6 ∙ ap across_of e in
+    λ i. record { speed = speed i; along = along i; across = across i }

@@ -1,40 +1,34 @@
-use Rattle.std.proofs.Common.{pos, refl, ap, ◌∙◌, arith, rules}
-use Rattle.std.proofs.lemmas.List.{length-take}
-use Rattle.sheets.specs.declared.row.Row.{Row}
+use Rattle.std.proofs.Common.{sym, ap, ◌∙◌, arith, None}
+use Rattle.std.proofs.Math.ListN.{length-set}
 use Rattle.sheets.specs.Rows.{samples, distinct}
-use Rattle.sheets.specs.Standing.{standing}
-use Rattle.sheets.proofs.Sheets.{has-angle, there, correct_ok, row_made, passed}
+use Rattle.sheets.proofs.Sheets.{none_row, has-angle, place-among, place-found, there, correct_ok, correct_absent, row_made}
 use Rattle.sheets.proofs.Orders.{rewrite-corrected, rewrite-distinct}
 use Rattle.sheets.proofs.sheet.Sheet.correct.Goals as goal
 
-abbrev none : Row
-none = record { sample = 0; speed = 0; word = 0; sine = pos 0; cosine = pos 0 }
-
-pub rewrite-requires : goal.rewrite-requires
-rewrite-requires g c = let s = c.args.self.now in (omega (arith, c.in-Some.ensures.within, length-take s.table.count s.table.rows), s.within)
-
-pub invariant_of-self : goal.invariant_of-self
-invariant_of-self g c =
+pub returns-in_default-clause-answer : goal.returns-in_default-clause-answer
+returns-in_default-clause-answer g c =
     let s = c.args.self.now in
-    let k = c.rewrite.ensures.kept in
-    let f = c.in-Some.ensures in
-    let e = c.rewrite.ensures.rows none in
-    record {
-      within = k.within;
-      differ = ap (λ l. distinct (samples l)) e ∙ rewrite-distinct (standing s.table) c.args.sample c.in-Some.i none c.args.speed c.args.word _ _ s.differ f;
-      speed = k.speed;
-      along = k.along;
-      across = k.across;
-    }
+    let a = has-angle (g.R.Reader.steps s.reader c.args.entry.word) (g.R.Reader.answer s.reader c.args.entry.word) (c.in_ok-k.k, c.in_ok-k.y) (g.met.R.Reader.meaning s.reader c.args.entry.word (omega arith)) c.in_ok-k.ensures in
+    correct_absent _ a.0 a.1 (samples s.table) c.args.entry.sample (sym (place-among c.args.entry.sample s.table None c.in_default.ensures))
 
-pub returns : goal.returns
-returns g c =
+pub invariant_of-self-clause-differ : goal.invariant_of-self-clause-differ
+invariant_of-self-clause-differ g c =
     let s = c.args.self.now in
-    let f = c.in-Some.ensures in
-    let a = has-angle (g.R.Reader.steps s.reader c.args.word) (g.R.Reader.answer s.reader c.args.word) (c.in_ok-k.k, c.in_ok-k.y) (g.met.R.Reader.meaning s.reader c.args.word (omega arith)) c.in_ok-k.ensures in
-    record {
-      answer = correct_ok _ a.0 a.1 (samples (standing s.table)) c.args.sample (there (standing s.table) c.args.sample c.in-Some.i f);
-      rows = c.rewrite.ensures.rows none ∙ rewrite-corrected (standing s.table) c.args.sample c.in-Some.i none c.args.speed c.args.word _ _ _ s.differ f (row_made _ c.in_ok-k.k c.in_ok-k.y c.args.sample c.args.speed c.args.word _ _ c.in_ok-k.ensures (passed _ _ (search rules) c.shares_of-sine.ensures.sine_is) (passed _ _ (search rules) c.shares_of-sine.ensures.cosine_is));
-      reader = refl;
-      same = tt;
-    }
+    ap (λ l. distinct (samples l)) (c.rewrite.ensures none_row)
+    ∙ rewrite-distinct s.table c.args.entry.sample c.in-Some.i none_row c.args.entry.speed c.args.entry.word _ _ s.differ (place-found c.args.entry.sample s.table c.in-Some.i c.in-Some.ensures)
+
+pub returns-clause-answer : goal.returns-clause-answer
+returns-clause-answer g c =
+    let s = c.args.self.now in
+    let a = has-angle (g.R.Reader.steps s.reader c.args.entry.word) (g.R.Reader.answer s.reader c.args.entry.word) (c.in_ok-k.k, c.in_ok-k.y) (g.met.R.Reader.meaning s.reader c.args.entry.word (omega arith)) c.in_ok-k.ensures in
+    correct_ok _ a.0 a.1 (samples s.table) c.args.entry.sample (there s.table c.args.entry.sample c.in-Some.i (place-found c.args.entry.sample s.table c.in-Some.i c.in-Some.ensures))
+
+pub returns-clause-rows : goal.returns-clause-rows
+returns-clause-rows g c =
+    let s = c.args.self.now in
+    c.rewrite.ensures none_row
+    ∙ rewrite-corrected s.table c.args.entry.sample c.in-Some.i none_row c.args.entry.speed c.args.entry.word _ _ _ s.differ (place-found c.args.entry.sample s.table c.in-Some.i c.in-Some.ensures)
+    (row_made _ c.in_ok-k.k c.in_ok-k.y c.args.entry.sample c.args.entry.speed c.args.entry.word _ _ c.in_ok-k.ensures c.shares_of-shares.ensures.sine_is c.shares_of-shares.ensures.cosine_is)
+
+pub invariant_of-self-clause-within : goal.invariant_of-self-clause-within
+invariant_of-self-clause-within g c = rw (c.rewrite.ensures none_row, length-set) c.args.self.now.within

@@ -23,7 +23,7 @@ loop-call-preserved g c =
     let R0 = rows c.loop-call.sheet in
     let R1 = rows c.follow.new.sheet in (
       omega arith,
-      c.follow.ensures.reader ∙ c.loop-call.invariant.1,
+      c.follow.ensures.rest.reader ∙ c.loop-call.invariant.1,
       subst (λ r. Grown (g.R.Reader.answer r) (standing_after (g.R.Reader.steps r) (take (i + 1) calls)) R1) c.loop-call.invariant.1
           (subst (λ b. Grown (g.R.Reader.answer c.loop-call.sheet.reader) b R1) (sym (fold_more (written (g.R.Reader.steps c.loop-call.sheet.reader)) [] calls i _ lt))
           (c.follow.ensures.grown (standing_after (g.R.Reader.steps c.loop-call.sheet.reader) (take i calls))
