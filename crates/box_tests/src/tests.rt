@@ -3,6 +3,7 @@ use readers::mount::Turned;
 use record::fault::{Cause, RecordFault};
 use record::report::{refusal_line, report};
 use shares::needle::needle;
+use sheets::book::Entry;
 use sheets::sheet::Sheet;
 use std::test::Fail;
 
@@ -71,21 +72,30 @@ fn mounts(rt: HostRuntime) -> Result<(), Fail> {
     }
 }
 
+// A sample at one cm/s, straight ahead.
+fn straight(sample: u16) -> Entry {
+    Entry {
+        sample,
+        speed: 1,
+        word: 0,
+    }
+}
+
 // 256 rows stand, one more does not; then the questions at their limits.
 #[test]
 fn rows(rt: HostRuntime) -> Result<(), Fail> {
     let mut sheet = Sheet::new(HalfTurns {});
     for i in 0..256u16 {
-        if sheet.enter(i, 1, 0).is_err() {
+        if sheet.enter(straight(i)).is_err() {
             return Err(Fail::new("there is room"));
         }
     }
     assert_eq!(rt; sheet.count(), 256);
-    match sheet.enter(256, 1, 0) {
+    match sheet.enter(straight(256)) {
         Ok(()) => return Err(Fail::new("the sheet is full")),
         Err(e) => assert_eq!(rt; e.number(), 10),
     }
-    match sheet.enter(255, 1, 0) {
+    match sheet.enter(straight(255)) {
         Ok(()) => return Err(Fail::new("the sample is taken")),
         Err(e) => assert_eq!(rt; e.number(), 8),
     }

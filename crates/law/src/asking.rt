@@ -2,7 +2,7 @@
 ghost use Rattle.std.specs.Prelude.{◌≡◌, List, []};
 ghost use Rattle.sheets.specs.declared.book.Entry.{Entry};
 ghost use Rattle.sheets.specs.Book.{written};
-ghost use Rattle.sheets.specs.Sheets.{rows, totals_of};
+ghost use Rattle.sheets.specs.Sheets.{rows, totals_of, RowsAlone};
 ghost use Rattle.sheets.specs.Runs.{Grown};
 ghost use Rattle.law.specs.Law.{Holds};
 ghost use Rattle.law.specs.Replies.{Answer, Run, calls_of};
@@ -35,16 +35,15 @@ pub struct Asked {
 pub fn ask<R: Reader>(sheet: &mut Sheet<R>, call: Call) -> Result<Reply, SheetFault>
     ensures answer { Answer (R.Reader.steps sheet.old.reader) (rows sheet.old) call result (rows sheet.new) }
     ensures grown { (book : List Entry) → Grown (R.Reader.answer sheet.old.reader) book (rows sheet.old) → Grown (R.Reader.answer sheet.old.reader) (written (R.Reader.steps sheet.old.reader) book call) (rows sheet.new) }
-    ensures reader { sheet.new.reader ≡ sheet.old.reader }
+    ensures rest { RowsAlone result sheet.old sheet.new }
 {
     match call {
-        Call::RowOf(sample) => Ok(Reply::Shown(sheet.row_of(sample)?)),
-        Call::RowAt(place) => Ok(Reply::Shown(sheet.row_at(place)?)),
+        Call::RowOf(sample) => sheet.row_of(sample).map(Reply::Shown),
+        Call::RowAt(place) => sheet.row_at(place).map(Reply::Shown),
         Call::Count => Ok(Reply::Counted(sheet.count())),
         Call::Totals => Ok(Reply::Summed(sheet.totals())),
         Call::Enter(_) | Call::Correct(_) | Call::Withdraw(_) => {
-            follow(sheet, call)?;
-            Ok(Reply::Done)
+            follow(sheet, call).map(|()| Reply::Done)
         }
     }
 }
@@ -56,10 +55,8 @@ pub fn run_asked<R: Reader>(reader: R, list: &mut [Asked]) -> Sheet<R>
     ensures holds { Holds (R.Reader.steps reader) (R.Reader.answer reader) (calls_of list.old) (rows result) (totals_of result) }
 {
     let mut sheet = Sheet::new(reader);
-    for i in 0..list.len() {
-        let call = list[i].call;
-        let answer = ask(&mut sheet, call);
-        list[i] = Asked { call, answer };
+    for asked in list.iter_mut() {
+        asked.answer = ask(&mut sheet, asked.call);
     }
     sheet
 }

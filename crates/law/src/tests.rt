@@ -1,16 +1,14 @@
 use crate::asking::{Asked, Reply, run_asked};
 use crate::run_both;
 use readers::edition::{HalfTurns, Radians};
-use readers::mount::{Mirrored, Turned};
+use readers::mount::{Mirrored, Quarters, Turned};
 use sheets::book::{Call, Entry};
 use std::test::Fail;
 
 // A quarter turn by the mount, and by the word.
 #[test]
 fn quarter_turns(rt: HostRuntime) -> Result<(), Fail> {
-    let Ok(one) = Turned::new(Mirrored { below: Radians {} }, 1) else {
-        return Err(Fail::new("one quarter"));
-    };
+    let one = Turned::by(Mirrored { below: Radians {} }, Quarters::One);
     let calls = [
         Call::Enter(Entry {
             sample: 7,

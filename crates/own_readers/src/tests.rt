@@ -1,7 +1,7 @@
 use crate::{Blind, WholeSteps};
 use law::run_both;
 use readers::edition::HalfTurns;
-use readers::mount::{Mirrored, Turned};
+use readers::mount::{Mirrored, Quarters, Turned};
 use shares::needle::needle;
 use sheets::book::{Call, Entry};
 use sheets::sheet::Sheet;
@@ -10,22 +10,18 @@ use std::test::Fail;
 // A pile of mounts over whole steps against half turns under the same pile: 8 steps are a quarter of a half turn.
 #[test]
 fn a_reader_of_our_own_under_mounts(rt: HostRuntime) -> Result<(), Fail> {
-    let Ok(one) = Turned::new(
+    let one = Turned::by(
         Mirrored {
             below: WholeSteps {},
         },
-        3,
-    ) else {
-        return Err(Fail::new("three quarters are allowed"));
-    };
-    let Ok(other) = Turned::new(
+        Quarters::Three,
+    );
+    let other = Turned::by(
         Mirrored {
             below: HalfTurns {},
         },
-        3,
-    ) else {
-        return Err(Fail::new("three quarters are allowed"));
-    };
+        Quarters::Three,
+    );
     let calls = [Call::Enter(Entry {
         sample: 1,
         speed: 1000,
@@ -48,11 +44,13 @@ fn a_reader_of_our_own_under_mounts(rt: HostRuntime) -> Result<(), Fail> {
 // A sheet over a reader without angles refuses every word, and changes nothing.
 #[test]
 fn a_reader_without_angles(rt: HostRuntime) -> Result<(), Fail> {
-    let Ok(mounted) = Turned::new(Blind {}, 1) else {
-        return Err(Fail::new("one quarter is allowed"));
+    let mut sheet = Sheet::new(Turned::by(Blind {}, Quarters::One));
+    let entry = Entry {
+        sample: 1,
+        speed: 2,
+        word: 3,
     };
-    let mut sheet = Sheet::new(mounted);
-    match sheet.enter(1, 2, 3) {
+    match sheet.enter(entry) {
         Ok(()) => return Err(Fail::new("no word has an angle")),
         Err(e) => assert_eq!(rt; e.number(), 7),
     }
