@@ -24,23 +24,13 @@ followed steps answer book before after item call q r offset i e was old new =
     subst (λ x. Follows answer after (located offset (put steps book x)) (located offset (lifted q))) (sym i)
     (subst (λ x. Follows answer after (located offset (put steps book (Put call))) (located offset (lifted x))) e (put-follows steps answer book before after call r offset was old new))
 
-pub returns-in_err-follow : goal.returns-in_err-follow
-returns-in_err-follow g c =
+pub returns-in_err-follow-clause-made : goal.returns-in_err-follow-clause-made
+returns-in_err-follow-clause-made g c offset book old =
     let s = c.args.sheet.now in
-    let steps : ℕ → Steps = λ w. g.R.Reader.steps s.reader w in
-    let answer : ℕ → Reading = λ w. g.R.Reader.answer s.reader w in
     let p = err_from_is_err_and c.from_residual.result c.from_residual.ensures.1 in
-    record {
-      made = λ offset book old. rw (p.1, p.2) (followed steps answer book (rows s) (rows c.follow.new.sheet) c.args.item c.in-Put.call _ c.follow.result offset c.in-Put.is c.in_err-follow.was c.follow.ensures.answer old (c.follow.ensures.grown book old));
-      reader = c.follow.ensures.reader;
-    }
+    rw (p.1, p.2) (followed (g.R.Reader.steps s.reader) (g.R.Reader.answer s.reader) book (rows s) (rows c.follow.new.sheet) c.args.item c.in-Put.call _ c.follow.result offset c.in-Put.is c.in_err-follow.was c.follow.ensures.answer old (c.follow.ensures.grown book old))
 
-pub returns-in_ok-follow : goal.returns-in_ok-follow
-returns-in_ok-follow g c =
+pub returns-in_ok-follow-clause-made : goal.returns-in_ok-follow-clause-made
+returns-in_ok-follow-clause-made g c offset book old =
     let s = c.args.sheet.now in
-    let steps : ℕ → Steps = λ w. g.R.Reader.steps s.reader w in
-    let answer : ℕ → Reading = λ w. g.R.Reader.answer s.reader w in
-    record {
-      made = λ offset book old. followed steps answer book (rows s) (rows c.follow.new.sheet) c.args.item c.in-Put.call _ c.follow.result offset c.in-Put.is c.in_ok-follow.was c.follow.ensures.answer old (c.follow.ensures.grown book old);
-      reader = c.follow.ensures.reader;
-    }
+    followed (g.R.Reader.steps s.reader) (g.R.Reader.answer s.reader) book (rows s) (rows c.follow.new.sheet) c.args.item c.in-Put.call _ c.follow.result offset c.in-Put.is c.in_ok-follow.was c.follow.ensures.answer old (c.follow.ensures.grown book old)

@@ -23,7 +23,7 @@ turn-made g r r0 field before after res q e f h =
 pub loop-field-preserved : goal.loop-field-preserved
 loop-field-preserved g c =
     let r0 = c.args.sheet.now.reader in (
-      c.put_field.ensures.reader ∙ c.loop-field.invariant.0,
+      c.put_field.ensures.rest.reader ∙ c.loop-field.invariant.0,
       λ book old.
           let I = c.loop-field.invariant.1 book old in
           let F = turn-made g c.loop-field.sheet.reader r0 c.in-Some.field (rows c.loop-field.sheet) (rows c.put_field.new.sheet) c.put_field.result (Ok tt) c.loop-field.invariant.0 c.in_ok-put_field.was c.put_field.ensures.made I.0 I.1 in
