@@ -12,7 +12,7 @@ pub enum Edition {
 }
 
 impl Edition {
-    // Its number, 5 or 6.
+    // Its number, 5 or 6. A method and not `u8::from`: the name says which number.
     pub fn number(self) -> u8
         ensures { result ≡ edition_number self }
     {

@@ -28,7 +28,7 @@ pub enum Cause {
 }
 
 impl Cause {
-    // Its refusal number.
+    // Its refusal number. A method and not `u8::from`: the name says which number.
     pub fn number(self) -> u8
         ensures { result ≡ cause_number self }
     {
@@ -54,6 +54,7 @@ impl Cause {
     }
 }
 
+// By hand, since a clause names the error that a `?` makes.
 impl From<SheetFault> for Cause {
     ghost from_gives = { λ e c. c ≡ Refused e };
 
@@ -62,7 +63,7 @@ impl From<SheetFault> for Cause {
     }
 }
 
-// Quarter turns that are none are a value that is not allowed.
+// Quarter turns that are none are a value that is not allowed. By hand, since a clause names the error that a `?` makes.
 impl From<MountFault> for Cause {
     ghost from_gives = { λ _ c. c ≡ Value };
 

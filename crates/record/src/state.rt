@@ -36,7 +36,7 @@ impl Kind {
     }
 }
 
-// May the tag stand here, and what is the state then?
+// May the tag stand here, and what is the state then? State and tag are matched together, by a rule of the project.
 pub fn stand(state: State, tag: u8) -> Result<(Kind, State), Cause>
     ensures { result ≡ next state tag }
 {
