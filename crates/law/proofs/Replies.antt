@@ -1,23 +1,15 @@
 -- A run, one call further.
-use Rattle.std.proofs.Common.{◌≡◌, ℕ, ◌+◌, ◌<◌, false, Ok, Err, Result, IsOkAnd, MatchResult, List, [], ◌∷◌, ◌++◌, map, length, get_or, take, set, fold, sym, refl, ap, ◌∙◌, subst}
+use Rattle.std.proofs.Common.{◌≡◌, ℕ, ◌+◌, ◌<◌, List, [], ◌∷◌, ◌++◌, map, length, get_or, take, set, fold, sym, refl, ap, ◌∙◌, subst}
 use mathlib.Core.List.Permᴰ
 use Rattle.std.proofs.lemmas.List.{map_push, map-set, set-get_or, take_more_set, get_or-map}
 use Rattle.std.proofs.lemmas.List.Sums.{fold_push}
 use Rattle.readers.specs.Meaning.{Steps, Reading}
 use Rattle.sheets.specs.declared.book.Entry.{Entry}
 use Rattle.sheets.specs.declared.row.Row.{Row}
-use Rattle.sheets.specs.declared.book.Call.TheVariants.{RowOf}
-use Rattle.sheets.specs.declared.fault.SheetFault.{SheetFault}
-use Rattle.sheets.specs.declared.fault.SheetFault.TheVariants.{Absent}
 use Rattle.sheets.specs.Book.{written, standing_after}
-use Rattle.sheets.specs.Rows.{samples, among}
 use Rattle.sheets.specs.Runs.{filled, Grown}
 use Rattle.sheets.specs.Sheets.{InAnyOrder}
 use Rattle.law.specs.declared.asking.Asked.{Asked}
-use Rattle.law.specs.declared.asking.Reply.{Reply}
-use Rattle.law.specs.declared.asking.Reply.TheVariants.{Shown}
-use Rattle.sheets.proofs.Sheets.{has_there, withdraw_ok, withdraw_absent}
-use Rattle.std.specs.List.{ContainsAt as Has}
 use Rattle.law.specs.Replies.{calls_of, Answer, Run}
 
 -- a call written back at its place
@@ -26,13 +18,6 @@ calls-kept list i a d h e =
     map-set (λ (x : Asked). x.call) list i a
     ∙ ap (λ c. set (calls_of list) i c) (e ∙ sym (get_or-map (λ (x : Asked). x.call) list i d d.call h))
     ∙ set-get_or (calls_of list) i d.call
-
--- the answer to a question for a sample's row
-pub shown : (steps : ℕ → Steps) (r : Result Row SheetFault) (q : Result Reply SheetFault) (rs : List Row) (s : ℕ) → MatchResult r (λ row. (row.sample ≡ s) × Has rs row) (λ e. (e ≡ Absent) × (among s (samples rs) ≡ false))
-    → MatchResult r (λ row. IsOkAnd q (λ y. y ≡ Shown row)) (λ e. q ≡ Err e) → Answer steps rs (RowOf s) q rs
-shown steps (Ok row) (Ok y) rs s h m = (sym (withdraw_ok (samples rs) s (has_there rs row s h.0 h.1)), (row, m, h.1, h.0, refl))
-shown steps (Ok row) (Err e) rs s h m = absurd m
-shown steps (Err e) q rs s h m = subst (λ q. Answer steps rs (RowOf s) q rs) (sym m) (sym (ap Err h.0 ∙ withdraw_absent (samples rs) s h.1), refl)
 
 module _ (steps : ℕ → Steps) (answer : ℕ → Reading) where
   run-push : (book : List Entry) (places : List Row) (list : List Asked) (mid after : List Row) (a : Asked) → Run steps answer book places list mid → Answer steps mid a.call a.answer after

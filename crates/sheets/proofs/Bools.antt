@@ -3,10 +3,6 @@ use Rattle.std.proofs.Common.{◌≡◌, ℕ, zero, suc, ◌<◌, true, false, n
 use Rattle.std.proofs.lemmas.Bool.{eqb-false, eq-eqb, ne_eqb, or_from, or_left, or_right, or_parts, and_parts, and_from, not-true, not_from_false}
 use Rattle.sheets.specs.Rows.{among, distinct}
 
-pub absent-among : (s : ℕ) (ss : List ℕ) → ((k : ℕ) → k < length ss → get_or ss k 0 ≡ s → ⊥) → among s ss ≡ false
-absent-among s [] h = refl
-absent-among s (x ∷ ss) h = or_from (eqb s x) (among s ss) (ne_eqb s x (λ e. h 0 (omega arith) (sym e))) (absent-among s ss (λ k l e. h (suc k) (omega arith) e))
-
 pub found_among : (s : ℕ) (ss : List ℕ) (i : ℕ) → i < length ss → get_or ss i 0 ≡ s → among s ss ≡ true
 found_among s [] i h e = absurd (omega arith)
 found_among s (x ∷ ss) zero h e = or_left (eqb s x) (among s ss) (eq-eqb s x (sym e))

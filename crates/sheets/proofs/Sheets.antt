@@ -1,5 +1,5 @@
 -- What the questions come to on a sheet.
-use Rattle.std.proofs.Common.{◌≡◌, ℕ, ◌+◌, ◌<◌, ◌≤◌, Bool, true, false, cond, ◌||◌, eqb, ltb, List, [], ◌∷◌, ◌++◌, length, ℤ, pos, is_some, is_ok, Some, None, Ok, Err, Option, Result, MatchResult, position, sym, refl, ap, ◌∙◌, arith, w32, SFits, to_z, of_z}
+use Rattle.std.proofs.Common.{◌≡◌, ℕ, ◌+◌, ◌<◌, ◌≤◌, Bool, true, false, cond, ◌||◌, eqb, ltb, List, [], ◌∷◌, ◌++◌, length, ℤ, pos, is_some, IsOkAnd, subst, Some, None, Ok, Err, Option, Result, MatchResult, position, sym, refl, ap, ◌∙◌, arith}
 use Rattle.std.specs.List.{position_from}
 use Rattle.std.proofs.lemmas.Iterator.Adapters.{position_from-zero}
 use Rattle.std.proofs.lemmas.List.Quantifiers.{position-Some}
@@ -10,13 +10,16 @@ use Rattle.std.proofs.lemmas.List.{get_or-map, length-map, map_push}
 use Rattle.exact.specs.Fraction.{Fraction}
 use Rattle.readers.specs.Meaning.{Steps, Reading, Keeps}
 use Rattle.sheets.specs.declared.fault.SheetFault.{SheetFault}
-use Rattle.sheets.specs.declared.fault.SheetFault.TheVariants.{Taken, Absent, Full, NoPlace}
+use Rattle.sheets.specs.declared.fault.SheetFault.TheVariants.{Taken, Absent, Full}
+use Rattle.sheets.specs.declared.book.Call.TheVariants.{RowOf}
+use Rattle.sheets.specs.declared.reply.Reply.{Reply}
+use Rattle.sheets.specs.declared.reply.Reply.TheVariants.{Shown}
 use Rattle.sheets.specs.declared.row.Row.{Row}
 use Rattle.sheets.specs.Rows.{samples, among, distinct}
-use Rattle.sheets.specs.Book.{may_enter, may_correct, may_withdraw, may_place}
+use Rattle.sheets.specs.Book.{may_enter, may_correct, may_withdraw}
+use Rattle.sheets.specs.Replies.{Answer}
 use Rattle.sheets.specs.Sheets.{row_for}
 use Rattle.shares.specs.Share.{sine_share, cosine_share}
-use Rattle.std.proofs.lemmas.Int.{to_z-of_z}
 use Rattle.sheets.proofs.Bools.{found_among, distinct_push}
 use Rattle.sheets.proofs.Orders.{eqb-sym, Found}
 
@@ -34,13 +37,6 @@ there rows s i f = found_among s (samples rows) i (omega (arith, f.within, lengt
 
 pub has_there : (rs : List Row) (r : Row) (s : ℕ) → r.sample ≡ s → Has rs r → among s (samples rs) ≡ true
 has_there rs r s e h = there rs s h.0 (record { within = h.1; same = get_or-map (λ (x : Row). x.sample) rs h.0 r 0 h.1 ∙ ap (λ (x : Row). x.sample) (h.2 r) ∙ e })
-
--- may a row be asked for at a place
-pub placed : (rs : List Row) (i : ℕ) → i < length rs → Ok tt ≡ may_place (samples rs) i
-placed rs i h = sym (cond-true (ltb i (length (samples rs))) _ _ (lt-ltb i (length (samples rs)) (omega (arith, length-map rs (λ (x : Row). x.sample)))))
-
-pub unplaced : (rs : List Row) (i : ℕ) (e : SheetFault) → e ≡ NoPlace → length rs ≤ i → Err e ≡ may_place (samples rs) i
-unplaced rs i e p h = ap Err p ∙ sym (cond-false (ltb i (length (samples rs))) _ _ (le-ltb i (length (samples rs)) (omega (arith, length-map rs (λ (x : Row). x.sample)))))
 
 -- a sample has a place exactly if it stands
 at-first : (s : ℕ) (rows : List Row) (i : ℕ) → is_some (position_from (λ r. eqb r.sample s) i rows) ≡ among s (samples rows)
@@ -74,10 +70,6 @@ distinct_more rows more r e d a = ap (λ l. distinct (samples l)) e ∙ ap disti
 pub row_made : (a : Reading) (k : ℕ) (y : Float) (s v w : ℕ) (sine cosine : ℤ) → Ok (k, y) ≡ a → sine ≡ sine_share k y → cosine ≡ cosine_share k y → record { sample = s; speed = v; word = w; sine = sine; cosine = cosine } ≡ row_for a s v w
 row_made a k y s v w sine cosine e p q = ap (λ z. record { sample = s; speed = v; word = w; sine = z; cosine = cosine }) p ∙ ap (λ z. record { sample = s; speed = v; word = w; sine = sine_share k y; cosine = z }) q ∙ ap (λ r. row_for r s v w) e
 
--- a signed result to its bits and back
-pub passed : (z v : ℤ) → SFits w32 z → z ≡ v → to_z w32 (of_z w32 z) ≡ v
-passed z v h e = to_z-of_z w32 z h ∙ e
-
 pub correct_ok : (o : Steps) (u : Fraction) (angle : o ≡ Some u) (ss : List ℕ) (s : ℕ) → among s ss ≡ true → Ok tt ≡ may_correct o ss s
 correct_ok o u angle ss s h = sym (ap (λ p. may_correct p ss s) angle ∙ cond-true (among s ss) _ _ h)
 
@@ -90,9 +82,9 @@ withdraw_absent ss s h = sym (cond-false (among s ss) _ _ h)
 pub correct_absent : (o : Steps) (u : Fraction) (angle : o ≡ Some u) (ss : List ℕ) (s : ℕ) → among s ss ≡ false → Err Absent ≡ may_correct o ss s
 correct_absent o u angle ss s h = sym (ap (λ p. may_correct p ss s) angle ∙ cond-false (among s ss) _ _ h)
 
--- asking for a sample's row asks what withdrawing it does
-pub asked-row : (r : Result Row SheetFault) (q : Result (Unit {0}) SheetFault) (P : Row → Type 0) (rs : List Row) (s : ℕ) → MatchResult r (λ row. (row.sample ≡ s) × Has rs row) (λ e. (e ≡ Absent) × (among s (samples rs) ≡ false))
-    → MatchResult r P (λ e. q ≡ Err e) → is_ok q ≡ is_ok r → q ≡ may_withdraw (samples rs) s
-asked-row (Ok row) (Ok u) P rs s h m v = withdraw_ok (samples rs) s (has_there rs row s h.0 h.1)
-asked-row (Ok row) (Err e) P rs s h m v = absurd (let z : ◌≡◌ {A = ℕ} 0 1 = cc in omega arith)
-asked-row (Err e) q P rs s h m v = m ∙ ap Err h.0 ∙ withdraw_absent (samples rs) s h.1
+-- the answer to a question for a sample's row
+pub shown : (steps : ℕ → Steps) (r : Result Row SheetFault) (q : Result Reply SheetFault) (rs : List Row) (s : ℕ) → MatchResult r (λ row. (row.sample ≡ s) × Has rs row) (λ e. (e ≡ Absent) × (among s (samples rs) ≡ false))
+    → MatchResult r (λ row. IsOkAnd q (λ y. y ≡ Shown row)) (λ e. q ≡ Err e) → Answer steps rs (RowOf s) q rs
+shown steps (Ok row) (Ok y) rs s h m = (sym (withdraw_ok (samples rs) s (has_there rs row s h.0 h.1)), (row, m, h.1, h.0, refl))
+shown steps (Ok row) (Err e) rs s h m = absurd m
+shown steps (Err e) q rs s h m = subst (λ q. Answer steps rs (RowOf s) q rs) (sym m) (sym (ap Err h.0 ∙ withdraw_absent (samples rs) s h.1), refl)

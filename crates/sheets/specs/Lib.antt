@@ -4,3 +4,4 @@ pub mod Rows
 pub mod Book
 pub mod Sheets
 pub mod Runs
+pub mod Replies

@@ -2,6 +2,7 @@
 
 pub mod book;
 pub mod fault;
+pub mod reply;
 pub mod row;
 mod row_table;
 pub mod sheet;

@@ -3,12 +3,31 @@ ghost use Rattle.sheets.specs.declared.book.Entry.{Entry};
 ghost use Rattle.sheets.specs.Book.{asked, written, standing_after};
 ghost use Rattle.sheets.specs.Rows.{samples};
 ghost use Rattle.sheets.specs.Sheets.{rows, RowsAlone};
+ghost use Rattle.sheets.specs.Replies.{Answer};
 ghost use Rattle.sheets.specs.Runs.{Grown};
 
 use crate::book::Call;
 use crate::fault::SheetFault;
+use crate::reply::Reply;
 use crate::sheet::Sheet;
 use readers::reader::Reader;
+
+// One call.
+pub fn ask<R: Reader>(sheet: &mut Sheet<R>, call: Call) -> Result<Reply, SheetFault>
+    ensures answer { Answer (R.Reader.steps sheet.old.reader) (rows sheet.old) call result (rows sheet.new) }
+    ensures grown { (book : List Entry) → Grown (R.Reader.answer sheet.old.reader) book (rows sheet.old) → Grown (R.Reader.answer sheet.old.reader) (written (R.Reader.steps sheet.old.reader) book call) (rows sheet.new) }
+    ensures rest { RowsAlone result sheet.old sheet.new }
+{
+    match call {
+        Call::Enter(entry) => sheet.enter(entry).map(|()| Reply::Done),
+        Call::Correct(entry) => sheet.correct(entry).map(|()| Reply::Done),
+        Call::Withdraw(sample) => sheet.withdraw(sample).map(|()| Reply::Done),
+        Call::RowOf(sample) => sheet.row_of(sample).map(Reply::Shown),
+        Call::RowAt(place) => sheet.row_at(place).map(Reply::Shown),
+        Call::Count => Ok(Reply::Counted(sheet.count())),
+        Call::Totals => Ok(Reply::Summed(sheet.totals())),
+    }
+}
 
 // One call, and whether it got a yes. What a question answers is let go here.
 pub fn follow<R: Reader>(sheet: &mut Sheet<R>, call: Call) -> Result<(), SheetFault>
@@ -16,14 +35,7 @@ pub fn follow<R: Reader>(sheet: &mut Sheet<R>, call: Call) -> Result<(), SheetFa
     ensures grown { (book : List Entry) → Grown (R.Reader.answer sheet.old.reader) book (rows sheet.old) → Grown (R.Reader.answer sheet.old.reader) (written (R.Reader.steps sheet.old.reader) book call) (rows sheet.new) }
     ensures rest { RowsAlone result sheet.old sheet.new }
 {
-    match call {
-        Call::Enter(entry) => sheet.enter(entry),
-        Call::Correct(entry) => sheet.correct(entry),
-        Call::Withdraw(sample) => sheet.withdraw(sample),
-        Call::RowOf(sample) => sheet.row_of(sample).map(|_| ()),
-        Call::RowAt(place) => sheet.row_at(place).map(|_| ()),
-        Call::Count | Call::Totals => Ok(()),
-    }
+    ask(sheet, call).map(|_| ())
 }
 
 // A new sheet over the reader, after the calls in their order.

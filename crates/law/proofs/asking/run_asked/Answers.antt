@@ -3,7 +3,7 @@ use Rattle.std.proofs.lemmas.List.{take_all}
 use Rattle.sheets.specs.declared.book.Call.TheVariants.{Enter}
 use Rattle.sheets.specs.Sheets.{rows, totals_of}
 use Rattle.law.specs.declared.asking.Asked.{Asked}
-use Rattle.law.specs.declared.asking.Reply.TheVariants.{Done}
+use Rattle.sheets.specs.declared.reply.Reply.TheVariants.{Done}
 use Rattle.law.specs.Law.{Holds}
 use Rattle.law.specs.Replies.{calls_of}
 use Rattle.law.proofs.Near.{holds}
@@ -32,8 +32,8 @@ loop-asked-preserved g c =
           c.ask-asked.ensures.answer c.ask-asked.ensures.grown),
     )
 
-pub returns : goal.returns
-returns g c =
+pub returns-clause-holds : goal.returns-clause-holds
+returns-clause-holds g c =
     let s = c.loop-asked.sheet in
     let list : List Asked = c.loop-asked.list in
     let all : take c.loop-asked.asked-index list ≡ list = take_all c.loop-asked.asked-index list (omega arith) in
@@ -41,9 +41,5 @@ returns g c =
     let so : Sofar (g.R.Reader.steps reader) (g.R.Reader.answer reader) list (rows s) =
     subst (λ r. Sofar (g.R.Reader.steps r) (g.R.Reader.answer r) list (rows s)) c.new-sheet.ensures.reader
     (subst (λ l. Sofar (g.R.Reader.steps c.new-sheet.result.reader) (g.R.Reader.answer c.new-sheet.result.reader) l (rows s)) all c.loop-asked.invariant.2) in
-    record {
-      calls = c.loop-asked.invariant.1;
-      answers = so.run;
-      holds = subst (λ l. Holds (g.R.Reader.steps reader) (g.R.Reader.answer reader) l (rows s) (totals_of s)) c.loop-asked.invariant.1
-          (holds (g.R.Reader.steps reader) (g.R.Reader.answer reader) (g.met.R.Reader.meaning reader) (calls_of list) (rows s) (totals_of s) so.grown refl refl refl);
-    }
+    subst (λ l. Holds (g.R.Reader.steps reader) (g.R.Reader.answer reader) l (rows s) (totals_of s)) c.loop-asked.invariant.1
+    (holds (g.R.Reader.steps reader) (g.R.Reader.answer reader) (g.met.R.Reader.meaning reader) (calls_of list) (rows s) (totals_of s) so.grown refl refl refl)

@@ -1,9 +1,7 @@
 use Rattle.std.proofs.Common.{◌≡◌, ℕ, ◌+◌, ◌*◌, ◌^◌, ◌<◌, ◌≤◌, List, length, get_or, take, ℤ, pos, ◌+ℤ◌, ◌*ℤ◌, nat_abs, fold, sym, ap, ◌∙◌, arith, w32, w64, SFits, to_z, of_z, rules}
-use Rattle.std.proofs.lemmas.List.{take_all}
 use Rattle.std.proofs.lemmas.List.Sums.{fold_more, sum_by_more}
 use Rattle.std.proofs.lemmas.Int.{ints, to_z-of_z}
 use Rattle.sheets.specs.declared.row.Row.{Row}
-use Rattle.sheets.specs.Rows.{speed_of, along_of, across_of}
 use Rattle.sheets.proofs.row_table.totals_of.Goals as goal
 
 abbrev none : Row
@@ -44,11 +42,3 @@ loop-row-preserved c =
       summed (λ a r. a +ℤ pos r.speed *ℤ r.cosine) rows i a0 p _ lt c.loop-row.invariant.5 along (read (get_or rows i none).speed a0 (get_or rows i none).cosine p fc c.part-along.ensures.value),
       summed (λ a r. a +ℤ pos r.speed *ℤ r.sine) rows i b0 q _ lt c.loop-row.invariant.6 across (read (get_or rows i none).speed b0 (get_or rows i none).sine q fs c.part-across.ensures.value),
     )
-
-pub returns : goal.returns
-returns c =
-    let e : take c.loop-row.row-index c.args.rows.now ≡ c.args.rows.now = take_all _ _ (omega arith) in
-    let speed = c.loop-row.invariant.4 ∙ ap speed_of e in
-    let along = c.loop-row.invariant.5 ∙ ap along_of e in
-    let across = c.loop-row.invariant.6 ∙ ap across_of e in
-    λ i. record { speed = speed i; along = along i; across = across i }

@@ -26,9 +26,8 @@ returns-clause-answer g c =
 pub returns-clause-rows : goal.returns-clause-rows
 returns-clause-rows g c =
     let s = c.args.self.now in
-    c.rewrite.ensures none_row
-    ∙ rewrite-corrected s.table c.args.entry.sample c.in-Some.i none_row c.args.entry.speed c.args.entry.word _ _ _ s.differ (place-found c.args.entry.sample s.table c.in-Some.i c.in-Some.ensures)
-    (row_made _ c.in_ok-k.k c.in_ok-k.y c.args.entry.sample c.args.entry.speed c.args.entry.word _ _ c.in_ok-k.ensures c.shares_of-shares.ensures.sine_is c.shares_of-shares.ensures.cosine_is)
+    let made = row_made _ c.in_ok-k.k c.in_ok-k.y c.args.entry.sample c.args.entry.speed c.args.entry.word _ _ c.in_ok-k.ensures c.shares_of-shares.ensures.sine_is c.shares_of-shares.ensures.cosine_is in
+    rw (c.rewrite.ensures none_row) (rewrite-corrected s.table c.args.entry.sample c.in-Some.i none_row c.args.entry.speed c.args.entry.word _ _ _ s.differ (place-found c.args.entry.sample s.table c.in-Some.i c.in-Some.ensures) made)
 
 pub invariant_of-self-clause-within : goal.invariant_of-self-clause-within
 invariant_of-self-clause-within g c = rw (c.rewrite.ensures none_row, length-set) c.args.self.now.within

@@ -1,12 +1,12 @@
-use Rattle.std.proofs.Common.{◌≡◌, ℕ, sym, subst, rules}
+use Rattle.std.proofs.Common.{ℕ, sym, subst, rules}
 use Rattle.readers.specs.Meaning.{Steps, Reading}
-use Rattle.sheets.specs.Book.{asked, written}
-use Rattle.sheets.specs.Rows.{samples}
+use Rattle.sheets.specs.Book.{written}
+use Rattle.sheets.specs.Replies.{Answer}
 use Rattle.sheets.specs.Sheets.{rows}
 use Rattle.sheets.specs.Runs.{Grown}
-use Rattle.sheets.proofs.Sheets.{asked-row}
+use Rattle.sheets.proofs.Sheets.{shown}
 use Rattle.sheets.proofs.Runs.{enter-grown, correct_grown, withdraw_grown}
-use Rattle.sheets.proofs.sheet.runs.follow.Goals as goal
+use Rattle.sheets.proofs.sheet.runs.ask.Goals as goal
 
 pub returns-in-Enter-clause-grown : goal.returns-in-Enter-clause-grown
 returns-in-Enter-clause-grown g c =
@@ -35,5 +35,5 @@ returns-in-Withdraw-clause-grown g c =
 pub returns-in-RowOf-clause-answer : goal.returns-in-RowOf-clause-answer
 returns-in-RowOf-clause-answer g c =
     let s = c.args.sheet.now in
-    subst (λ q. c.map.result ≡ asked (g.R.Reader.steps s.reader) (samples (rows s)) q) (sym c.in-RowOf.is)
-    (asked-row c.row_of.result c.map.result _ (rows s) c.in-RowOf.sample c.row_of.ensures c.map.ensures.cases c.map.ensures.variant)
+    subst (λ q. Answer (g.R.Reader.steps s.reader) (rows s) q c.map-in-RowOf.result (rows s)) (sym c.in-RowOf.is)
+    (shown (g.R.Reader.steps s.reader) c.row_of.result c.map-in-RowOf.result (rows s) c.in-RowOf.sample c.row_of.ensures c.map-in-RowOf.ensures.cases)

@@ -1,0 +1,11 @@
+use crate::row::Row;
+use crate::totals::Totals;
+
+// What a call replies that is not refused.
+#[derive(Clone, Copy)]
+pub enum Reply {
+    Done,
+    Shown(Row),
+    Counted(usize),
+    Summed(Totals),
+}
