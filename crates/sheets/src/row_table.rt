@@ -105,7 +105,7 @@ impl Table {
 
     pub(crate) fn rewrite(&mut self, i: usize, entry: Entry, shares: Shares)
         requires { i < length self.old }
-        ensures { (d : Row) → self.new ≡ slice_set self.old i (rewritten (slice_index_or self.old i d) entry.speed entry.word shares.sine shares.cosine) }
+        ensures { (d : Row) → self.new ≡ slice_set self.old i (rewritten (slice_index_or self.old i d) entry shares) }
     {
         self.rows[i].rewrite(entry, shares);
         self.totals = totals_of(&self.rows);

@@ -4,7 +4,8 @@ ghost use Rattle.sheets.specs.declared.row.Row.{Row};
 ghost use Rattle.sheets.specs.declared.fault.SheetFault.TheVariants.{NoPlace, Absent};
 ghost use Rattle.sheets.specs.Rows.{samples, among, speed_of, along_of, across_of};
 ghost use Rattle.sheets.specs.Book.{allowed, may_enter, may_correct, may_withdraw};
-ghost use Rattle.sheets.specs.Sheets.{rows, row_for, corrected, without, InAnyOrder, RowsAlone};
+ghost use Rattle.sheets.specs.Runs.{filled};
+ghost use Rattle.sheets.specs.Sheets.{rows, corrected, without, InAnyOrder, RowsAlone};
 
 use crate::book::Entry;
 use crate::fault::SheetFault;
@@ -28,7 +29,7 @@ impl<R: Reader> Sheet<R> {
 
     pub fn enter(&mut self, entry: Entry) -> Result<(), SheetFault>
         ensures answer { result ≡ may_enter (R.Reader.steps self.old.reader entry.word) (samples (rows self.old)) entry.sample }
-        ensures rows { rows self.new ≡ allowed result (rows self.old ++ row_for (R.Reader.answer self.old.reader entry.word) entry.sample entry.speed entry.word ∷ []) (rows self.old) }
+        ensures rows { rows self.new ≡ allowed result (rows self.old ++ filled (R.Reader.answer self.old.reader) entry ∷ []) (rows self.old) }
         ensures rest { RowsAlone result self.old self.new }
     {
         let (k, y) = self.reader.read(entry.word)?;
@@ -45,7 +46,7 @@ impl<R: Reader> Sheet<R> {
 
     pub fn correct(&mut self, entry: Entry) -> Result<(), SheetFault>
         ensures answer { result ≡ may_correct (R.Reader.steps self.old.reader entry.word) (samples (rows self.old)) entry.sample }
-        ensures rows { rows self.new ≡ allowed result (corrected (rows self.old) entry.sample (row_for (R.Reader.answer self.old.reader entry.word) entry.sample entry.speed entry.word)) (rows self.old) }
+        ensures rows { rows self.new ≡ allowed result (corrected (rows self.old) entry.sample (filled (R.Reader.answer self.old.reader) entry)) (rows self.old) }
         ensures rest { RowsAlone result self.old self.new }
     {
         let (k, y) = self.reader.read(entry.word)?;
