@@ -7,7 +7,7 @@ use Rattle.readers.specs.Meaning.{Steps, Reading}
 use Rattle.sheets.specs.declared.book.Entry.{Entry}
 use Rattle.sheets.specs.declared.row.Row.{Row}
 use Rattle.sheets.specs.Book.{written, standing_after}
-use Rattle.sheets.specs.Runs.{filled, Grown}
+use Rattle.sheets.specs.Runs.{filled, Grown, GrownBy}
 use Rattle.sheets.specs.Sheets.{InAnyOrder}
 use Rattle.law.specs.declared.asking.Asked.{Asked}
 use Rattle.law.specs.Replies.{calls_of, Answer, Run}
@@ -37,7 +37,7 @@ module _ (steps : ℕ → Steps) (answer : ℕ → Reading) where
   begun places e = subst (λ l. Sofar [] l) (sym e) (record { run = refl; grown = record { order = Permᴰ.refl []; words = tt } })
 
   pub further : (list : List Asked) (i : ℕ) (a : Asked) (before after : List Row) → i < length list → Sofar (take i list) before → Answer steps before a.call a.answer after
-      → ((book : List Entry) → Grown answer book before → Grown answer (written steps book a.call) after) → Sofar (take (i + 1) (set list i a)) after
+      → GrownBy steps answer a.call before after → Sofar (take (i + 1) (set list i a)) after
   further list i a before after h s r grows =
       let front : List Asked = take i list in
       let g : Grown answer (written steps (standing_after steps (calls_of front)) a.call) after = grows (standing_after steps (calls_of front)) s.grown in

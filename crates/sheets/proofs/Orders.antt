@@ -1,14 +1,16 @@
 -- Lists in another order.
-use Rattle.std.proofs.Common.{◌≡◌, ℕ, zero, suc, ◌-◌, ◌<◌, Bool, true, false, cond, not, ◌&&◌, ◌||◌, eqb, List, [], ◌∷◌, length, get_or, take, set, ℤ, filter, sym, refl, ap, ◌∙◌, subst, arith}
+use Rattle.std.proofs.Common.{◌≡◌, ℕ, zero, suc, ◌-◌, ◌<◌, Bool, true, false, cond, not, ◌&&◌, ◌||◌, eqb, List, [], ◌∷◌, length, get_or, take, set, filter, sym, refl, ap, ◌∙◌, subst, arith}
 use mathlib.Core.List.Permᴰ
 use mathlib.Core.List.{Permᴰ}
 use Rattle.std.proofs.lemmas.Bool.{eqb-true, eqb-false, eq-eqb, ne_eqb, or_parts, and_parts, not-true, not_from_false, not_from_true, cond-true, cond-false}
 use Rattle.std.proofs.lemmas.List.{get_or-map, length-map}
+use Rattle.shares.specs.declared.share.Shares.{Shares}
+use Rattle.sheets.specs.declared.book.Entry.{Entry}
 use Rattle.sheets.specs.declared.row.Row.{Row}
 use Rattle.sheets.specs.Rows.{among, distinct, samples}
 use Rattle.sheets.specs.Sheets.{InAnyOrder, corrected, without}
 use Rattle.std.specs.List.{swap_remove}
-use Rattle.sheets.specs.Rewrite.{rewritten}
+use Rattle.sheets.specs.Rewrite.{entry_row, rewritten}
 use Rattle.sheets.proofs.Bools.{found_among}
 
 -- the row of the sample s is at place i
@@ -153,11 +155,11 @@ corrected-samples (r ∷ rows) s new e =
     λ t. elim t as (λ t. eqb r.sample s ≡ t → (cond t new r).sample ≡ r.sample) [ true ↦ λ q. e ∙ sym (eqb-true r.sample s q) | false ↦ λ q. refl ] in
     ap (λ x. x ∷ samples (corrected rows s new)) (go (eqb r.sample s) refl) ∙ ap (λ l. r.sample ∷ l) (corrected-samples rows s new e)
 
-pub rewrite-corrected : (rows : List Row) (s i : ℕ) (d : Row) (v w : ℕ) (a b : ℤ) (new : Row) → distinct (samples rows) ≡ true → Found s rows i → record { sample = s; speed = v; word = w; sine = a; cosine = b } ≡ new → set rows i (rewritten (get_or rows i d) v w a b) ≡ corrected rows s new
-rewrite-corrected rows s i d v w a b new u f e =
-    let q : (get_or rows i d).sample ≡ s = sym (get_or-map (λ (r : Row). r.sample) rows i d 0 f.within) ∙ f.same in
-    ap (λ z. set rows i (record { sample = z; speed = v; word = w; sine = a; cosine = b })) q ∙ ap (set rows i) e ∙ corrected-at rows s i new u f.within f.same
+pub rewrite-corrected : (rows : List Row) (i : ℕ) (d : Row) (x : Entry) (y : Shares) (new : Row) → distinct (samples rows) ≡ true → Found x.sample rows i → entry_row x y ≡ new → set rows i (rewritten (get_or rows i d) x y) ≡ corrected rows x.sample new
+rewrite-corrected rows i d x y new u f e =
+    let q : (get_or rows i d).sample ≡ x.sample = sym (get_or-map (λ (r : Row). r.sample) rows i d 0 f.within) ∙ f.same in
+    ap (λ z. set rows i (record { sample = z; speed = x.speed; word = x.word; sine = y.sine; cosine = y.cosine })) q ∙ ap (set rows i) e ∙ corrected-at rows x.sample i new u f.within f.same
 
-pub rewrite-distinct : (rows : List Row) (s i : ℕ) (d : Row) (v w : ℕ) (a b : ℤ) → distinct (samples rows) ≡ true → Found s rows i → distinct (samples (set rows i (rewritten (get_or rows i d) v w a b))) ≡ true
-rewrite-distinct rows s i d v w a b u f =
-    ap (λ l. distinct (samples l)) (rewrite-corrected rows s i d v w a b _ u f refl) ∙ ap distinct (corrected-samples rows s _ refl) ∙ u
+pub rewrite-distinct : (rows : List Row) (i : ℕ) (d : Row) (x : Entry) (y : Shares) → distinct (samples rows) ≡ true → Found x.sample rows i → distinct (samples (set rows i (rewritten (get_or rows i d) x y))) ≡ true
+rewrite-distinct rows i d x y u f =
+    ap (λ l. distinct (samples l)) (rewrite-corrected rows i d x y _ u f refl) ∙ ap distinct (corrected-samples rows x.sample _ refl) ∙ u

@@ -1,5 +1,5 @@
 -- What the questions come to on a sheet.
-use Rattle.std.proofs.Common.{◌≡◌, ℕ, ◌+◌, ◌<◌, ◌≤◌, Bool, true, false, cond, ◌||◌, eqb, ltb, List, [], ◌∷◌, ◌++◌, length, ℤ, pos, is_some, IsOkAnd, subst, Some, None, Ok, Err, Option, Result, MatchResult, position, sym, refl, ap, ◌∙◌, arith}
+use Rattle.std.proofs.Common.{◌≡◌, ℕ, ◌+◌, ◌<◌, ◌≤◌, Bool, true, false, cond, ◌||◌, eqb, ltb, List, [], ◌∷◌, ◌++◌, length, pos, is_some, IsOkAnd, subst, Some, None, Ok, Err, Option, Result, MatchResult, position, sym, refl, ap, ◌∙◌, arith}
 use Rattle.std.specs.List.{position_from}
 use Rattle.std.proofs.lemmas.Iterator.Adapters.{position_from-zero}
 use Rattle.std.proofs.lemmas.List.Quantifiers.{position-Some}
@@ -14,10 +14,14 @@ use Rattle.sheets.specs.declared.fault.SheetFault.TheVariants.{Taken, Absent, Fu
 use Rattle.sheets.specs.declared.book.Call.TheVariants.{RowOf}
 use Rattle.sheets.specs.declared.reply.Reply.{Reply}
 use Rattle.sheets.specs.declared.reply.Reply.TheVariants.{Shown}
+use Rattle.shares.specs.declared.share.Shares.{Shares}
+use Rattle.sheets.specs.declared.book.Entry.{Entry}
 use Rattle.sheets.specs.declared.row.Row.{Row}
 use Rattle.sheets.specs.Rows.{samples, among, distinct}
 use Rattle.sheets.specs.Book.{may_enter, may_correct, may_withdraw}
 use Rattle.sheets.specs.Replies.{Answer}
+use Rattle.sheets.specs.Rewrite.{entry_row}
+use Rattle.sheets.specs.Runs.{filled}
 use Rattle.sheets.specs.Sheets.{row_for}
 use Rattle.shares.specs.Share.{sine_share, cosine_share}
 use Rattle.sheets.proofs.Bools.{found_among, distinct_push}
@@ -67,8 +71,8 @@ module _ (o : Steps) (u : Fraction) (angle : o ≡ Some u) (ss : List ℕ) (s : 
 pub distinct_more : (rows more : List Row) (r : Row) → more ≡ rows ++ r ∷ [] → distinct (samples rows) ≡ true → among r.sample (samples rows) ≡ false → distinct (samples more) ≡ true
 distinct_more rows more r e d a = ap (λ l. distinct (samples l)) e ∙ ap distinct (map_push (λ r. r.sample) rows r) ∙ distinct_push r.sample (samples rows) d a
 
-pub row_made : (a : Reading) (k : ℕ) (y : Float) (s v w : ℕ) (sine cosine : ℤ) → Ok (k, y) ≡ a → sine ≡ sine_share k y → cosine ≡ cosine_share k y → record { sample = s; speed = v; word = w; sine = sine; cosine = cosine } ≡ row_for a s v w
-row_made a k y s v w sine cosine e p q = ap (λ z. record { sample = s; speed = v; word = w; sine = z; cosine = cosine }) p ∙ ap (λ z. record { sample = s; speed = v; word = w; sine = sine_share k y; cosine = z }) q ∙ ap (λ r. row_for r s v w) e
+pub row_made : (answer : ℕ → Reading) (x : Entry) (s : Shares) (k : ℕ) (y : Float) → Ok (k, y) ≡ answer x.word → s.sine ≡ sine_share k y → s.cosine ≡ cosine_share k y → entry_row x s ≡ filled answer x
+row_made answer x s k y e p q = (λ i. record { sample = x.sample; speed = x.speed; word = x.word; sine = p i; cosine = q i }) ∙ ap (λ a. row_for a x.sample x.speed x.word) e
 
 pub correct_ok : (o : Steps) (u : Fraction) (angle : o ≡ Some u) (ss : List ℕ) (s : ℕ) → among s ss ≡ true → Ok tt ≡ may_correct o ss s
 correct_ok o u angle ss s h = sym (ap (λ p. may_correct p ss s) angle ∙ cond-true (among s ss) _ _ h)

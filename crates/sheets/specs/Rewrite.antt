@@ -1,5 +1,4 @@
 -- A row that was made, and one that was rewritten. Definitions only.
-use Rattle.std.specs.Prelude.{ℕ, ℤ}
 use Rattle.shares.specs.declared.share.Shares.{Shares}
 use Rattle.sheets.specs.declared.book.Entry.{Entry}
 use Rattle.sheets.specs.declared.row.Row.{Row}
@@ -9,5 +8,5 @@ abbrev pub entry_row : Entry → Shares → Row
 entry_row e s = record { sample = e.sample; speed = e.speed; word = e.word; sine = s.sine; cosine = s.cosine }
 
 -- a row at its sample, with all else new
-abbrev pub rewritten : Row → ℕ → ℕ → ℤ → ℤ → Row
-rewritten r speed word sine cosine = record { sample = r.sample; speed = speed; word = word; sine = sine; cosine = cosine }
+abbrev pub rewritten : Row → Entry → Shares → Row
+rewritten r e s = record { sample = r.sample; speed = e.speed; word = e.word; sine = s.sine; cosine = s.cosine }

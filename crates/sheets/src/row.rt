@@ -5,6 +5,7 @@ use crate::book::Entry;
 use shares::share::Shares;
 
 // A row: its sample's number, speed in cm/s, heading word, and the word's shares.
+// Kept flat: each sum and each list of samples reads a row's own fields, and an entry inside would only lengthen them.
 #[derive(Clone, Copy, Debug, Default, PartialEq, Eq)]
 pub struct Row {
     pub sample: u16,
@@ -30,7 +31,7 @@ impl Row {
 
     // All but the sample anew.
     pub fn rewrite(&mut self, entry: Entry, shares: Shares)
-        ensures { self.new ≡ rewritten self.old entry.speed entry.word shares.sine shares.cosine }
+        ensures { self.new ≡ rewritten self.old entry shares }
     {
         self.speed = entry.speed;
         self.word = entry.word;

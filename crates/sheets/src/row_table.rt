@@ -1,5 +1,5 @@
 // The rows of a sheet with their totals. A clause sees a table as the list of its rows.
-ghost use Rattle.std.specs.Prelude.{◌≡◌, ◌==◌, ◌+◌, ◌*◌, ◌^◌, ◌<◌, ◌≤◌, [], ◌∷◌, ◌++◌, length, pos, ◌*ℤ◌, position, slice_index_or, slice_set, unsigned_abs};
+ghost use Rattle.std.specs.Prelude.{◌≡◌, ◌==◌, ◌^◌, ◌<◌, ◌≤◌, [], ◌∷◌, ◌++◌, length, pos, ◌*ℤ◌, position, slice_index_or, slice_set, unsigned_abs};
 ghost use Rattle.std.specs.List.{swap_remove};
 ghost use Rattle.sheets.specs.declared.row.Row.{Row};
 ghost use Rattle.sheets.specs.Rewrite.{rewritten};
@@ -12,6 +12,7 @@ use arrayvec::ArrayVec;
 use shares::share::Shares;
 use std::marker::Model;
 
+// At most 256 rows, and their totals.
 #[derive(Drop)]
 pub(crate) struct Table {
     rows: ArrayVec<Row, 256>,
@@ -59,6 +60,7 @@ fn totals_of(rows: &[Row]) -> Totals
 }
 
 impl Table {
+    // No rows.
     pub(crate) fn new() -> Table
         ensures { result ≡ [] }
     {
@@ -68,6 +70,7 @@ impl Table {
         }
     }
 
+    // How many rows stand.
     pub(crate) fn count(&self) -> usize
         ensures count { result ≡ length self.now }
         ensures fits { result ≤ 256 }
@@ -75,6 +78,7 @@ impl Table {
         self.rows.len()
     }
 
+    // The totals kept.
     pub(crate) fn totals(&self) -> Totals
         ensures { result ≡ row_totals self.now }
     {
@@ -88,6 +92,7 @@ impl Table {
         self.rows.iter().position(|row| row.sample == sample)
     }
 
+    // The row at a place.
     pub(crate) fn at(&self, i: usize) -> Row
         requires { i < length self.now }
         ensures { (d : Row) → result ≡ slice_index_or self.now i d }
@@ -95,6 +100,7 @@ impl Table {
         self.rows[i]
     }
 
+    // One more row, at the end.
     pub(crate) fn push(&mut self, row: Row)
         requires { length self.old < 256 }
         ensures { self.new ≡ self.old ++ row ∷ [] }
@@ -103,15 +109,16 @@ impl Table {
         self.totals = totals_of(&self.rows);
     }
 
+    // The row at a place, all but its sample anew.
     pub(crate) fn rewrite(&mut self, i: usize, entry: Entry, shares: Shares)
         requires { i < length self.old }
-        ensures { (d : Row) → self.new ≡ slice_set self.old i (rewritten (slice_index_or self.old i d) entry.speed entry.word shares.sine shares.cosine) }
+        ensures { (d : Row) → self.new ≡ slice_set self.old i (rewritten (slice_index_or self.old i d) entry shares) }
     {
         self.rows[i].rewrite(entry, shares);
         self.totals = totals_of(&self.rows);
     }
 
-    // The last row comes to the place of the removed one.
+    // Takes the row at a place away; the last row comes to its place.
     pub(crate) fn remove(&mut self, i: usize)
         requires { i < length self.old }
         ensures { (d : Row) → self.new ≡ swap_remove self.old i d }

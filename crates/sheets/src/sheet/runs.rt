@@ -1,10 +1,9 @@
-ghost use Rattle.std.specs.Prelude.{◌≡◌, List, OnErr};
-ghost use Rattle.sheets.specs.declared.book.Entry.{Entry};
-ghost use Rattle.sheets.specs.Book.{asked, written, standing_after};
+ghost use Rattle.std.specs.Prelude.{◌≡◌};
+ghost use Rattle.sheets.specs.Book.{asked, standing_after};
 ghost use Rattle.sheets.specs.Rows.{samples};
 ghost use Rattle.sheets.specs.Sheets.{rows, RowsAlone};
 ghost use Rattle.sheets.specs.Replies.{Answer};
-ghost use Rattle.sheets.specs.Runs.{Grown};
+ghost use Rattle.sheets.specs.Runs.{Grown, GrownBy};
 
 use crate::book::Call;
 use crate::fault::SheetFault;
@@ -15,7 +14,7 @@ use readers::reader::Reader;
 // One call.
 pub fn ask<R: Reader>(sheet: &mut Sheet<R>, call: Call) -> Result<Reply, SheetFault>
     ensures answer { Answer (R.Reader.steps sheet.old.reader) (rows sheet.old) call result (rows sheet.new) }
-    ensures grown { (book : List Entry) → Grown (R.Reader.answer sheet.old.reader) book (rows sheet.old) → Grown (R.Reader.answer sheet.old.reader) (written (R.Reader.steps sheet.old.reader) book call) (rows sheet.new) }
+    ensures grown { GrownBy (R.Reader.steps sheet.old.reader) (R.Reader.answer sheet.old.reader) call (rows sheet.old) (rows sheet.new) }
     ensures rest { RowsAlone result sheet.old sheet.new }
 {
     match call {
@@ -32,7 +31,7 @@ pub fn ask<R: Reader>(sheet: &mut Sheet<R>, call: Call) -> Result<Reply, SheetFa
 // One call, and whether it got a yes. What a question answers is let go here.
 pub fn follow<R: Reader>(sheet: &mut Sheet<R>, call: Call) -> Result<(), SheetFault>
     ensures answer { result ≡ asked (R.Reader.steps sheet.old.reader) (samples (rows sheet.old)) call }
-    ensures grown { (book : List Entry) → Grown (R.Reader.answer sheet.old.reader) book (rows sheet.old) → Grown (R.Reader.answer sheet.old.reader) (written (R.Reader.steps sheet.old.reader) book call) (rows sheet.new) }
+    ensures grown { GrownBy (R.Reader.steps sheet.old.reader) (R.Reader.answer sheet.old.reader) call (rows sheet.old) (rows sheet.new) }
     ensures rest { RowsAlone result sheet.old sheet.new }
 {
     ask(sheet, call).map(|_| ())

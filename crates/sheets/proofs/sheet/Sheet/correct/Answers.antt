@@ -15,7 +15,7 @@ pub invariant_of-self-clause-differ : goal.invariant_of-self-clause-differ
 invariant_of-self-clause-differ g c =
     let s = c.args.self.now in
     ap (λ l. distinct (samples l)) (c.rewrite.ensures none_row)
-    ∙ rewrite-distinct s.table c.args.entry.sample c.in-Some.i none_row c.args.entry.speed c.args.entry.word _ _ s.differ (place-found c.args.entry.sample s.table c.in-Some.i c.in-Some.ensures)
+    ∙ rewrite-distinct s.table c.in-Some.i none_row c.args.entry _ s.differ (place-found c.args.entry.sample s.table c.in-Some.i c.in-Some.ensures)
 
 pub returns-clause-answer : goal.returns-clause-answer
 returns-clause-answer g c =
@@ -26,8 +26,8 @@ returns-clause-answer g c =
 pub returns-clause-rows : goal.returns-clause-rows
 returns-clause-rows g c =
     let s = c.args.self.now in
-    let made = row_made _ c.in_ok-k.k c.in_ok-k.y c.args.entry.sample c.args.entry.speed c.args.entry.word _ _ c.in_ok-k.ensures c.shares_of-shares.ensures.sine_is c.shares_of-shares.ensures.cosine_is in
-    rw (c.rewrite.ensures none_row) (rewrite-corrected s.table c.args.entry.sample c.in-Some.i none_row c.args.entry.speed c.args.entry.word _ _ _ s.differ (place-found c.args.entry.sample s.table c.in-Some.i c.in-Some.ensures) made)
+    let made = row_made (λ w. g.R.Reader.answer s.reader w) c.args.entry _ c.in_ok-k.k c.in_ok-k.y c.in_ok-k.ensures c.shares_of-shares.ensures.sine_is c.shares_of-shares.ensures.cosine_is in
+    rw (c.rewrite.ensures none_row) (rewrite-corrected s.table c.in-Some.i none_row c.args.entry _ _ s.differ (place-found c.args.entry.sample s.table c.in-Some.i c.in-Some.ensures) made)
 
 pub invariant_of-self-clause-within : goal.invariant_of-self-clause-within
 invariant_of-self-clause-within g c = rw (c.rewrite.ensures none_row, length-set) c.args.self.now.within
