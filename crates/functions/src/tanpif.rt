@@ -6,7 +6,7 @@ ghost use Rattle.formulas.specs.Tangent.{HalfOrNear};
 use crate::word::{INFINITE, NAN, SIGN, size_bits, widened, zero_like};
 use reducers::pi::ArgumentReducerPi;
 use reducers::step_of;
-use rounding::{copysignfk, f_fmla, narrow, narrow_word};
+use rounding::{copysign, f_fmla, narrow, narrow_word};
 use std::num::{f32_from_bits_with_nan, f32_to_bits_with_nan, f32_to_f64_with_nan};
 use table::tangent::{tanf_eval, tangent};
 
@@ -40,8 +40,8 @@ fn tanpi_at(x: f32, y: f64, k: u8) -> f32
     let is_odd = k >= 32;
     match k % 32 {
         // Whole numbers: the sign of x if even, its opposite if odd.
-        0 if y == 0.0 && is_odd => -copysignfk(0.0, x),
-        0 if y == 0.0 => copysignfk(0.0, x),
+        0 if y == 0.0 && is_odd => -copysign(0.0, x),
+        0 if y == 0.0 => copysign(0.0, x),
         // Halves: positive after an even number, negative after an odd one.
         16 if y == 0.0 && is_odd => f32::NEG_INFINITY,
         16 if y == 0.0 => f32::INFINITY,

@@ -1,7 +1,10 @@
-use Rattle.std.proofs.Common.{arith, rules}
-use Rattle.rounding.proofs.Narrows.{narrow-joined}
+use Rattle.std.proofs.Common.{ap, ◌∙◌}
+use lib.Ieee.{binary32, of_bits}
+use lib.Ieee.Bits.{of_bits-to_bits}
+use Rattle.std.specs.Float.{round_to_format}
+use Rattle.rounding.proofs.Narrows.{narrowed_fits}
 use Rattle.rounding.proofs.narrowing.narrow.Goals as goal
 
-pub returns-then-field-le1150 : goal.returns-then-field-le1150
-returns-then-field-le1150 c =
-    narrow-joined c.args.x c.f32_from_bits_with_nan.result c.f64_to_bits_with_nan-i.result c.narrow_bits.result (search rules) c.f64_to_bits_with_nan-i.ensures (omega arith) (omega arith) c.narrow_bits.ensures c.f32_from_bits_with_nan.ensures
+pub returns : goal.returns
+returns c =
+    c.f32_from_bits_with_nan.ensures ∙ ap (of_bits binary32) c.narrow_word.ensures ∙ of_bits-to_bits binary32 (round_to_format binary32 c.args.x) (narrowed_fits binary32 c.args.x)
