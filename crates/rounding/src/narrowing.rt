@@ -62,5 +62,9 @@ pub fn narrow_word(x: f64) -> u32
 pub fn narrow(x: f64) -> f32
     ensures { result ≡ round_to_format binary32 x }
 {
-    f32_from_bits_with_nan(narrow_word(x))
+    if x.is_nan() {
+        f32::NAN
+    } else {
+        f32::from_bits(narrow_word(x))
+    }
 }
