@@ -1,9 +1,7 @@
 ghost use Rattle.std.specs.Prelude.{◌≡◌, length};
 ghost use Rattle.sines.specs.Reading.{digit_of, word_of, Named, Read, result_of};
 
-use functions::{
-    luhvend_cosf, luhvend_cospif, luhvend_sinf, luhvend_sinpif, luhvend_tanf, luhvend_tanpif,
-};
+use functions::{Cosf, Cospif, Sinf, Sinpif, Tanf, Tanpif, on_word};
 
 // The six functions.
 #[derive(Clone, Copy, Drop)]
@@ -62,12 +60,12 @@ impl Request {
         ensures { result ≡ result_of self }
     {
         match self.function {
-            Function::Sinf => luhvend_sinf(self.word),
-            Function::Cosf => luhvend_cosf(self.word),
-            Function::Tanf => luhvend_tanf(self.word),
-            Function::Sinpif => luhvend_sinpif(self.word),
-            Function::Cospif => luhvend_cospif(self.word),
-            Function::Tanpif => luhvend_tanpif(self.word),
+            Function::Sinf => on_word::<Sinf>(self.word),
+            Function::Cosf => on_word::<Cosf>(self.word),
+            Function::Tanf => on_word::<Tanf>(self.word),
+            Function::Sinpif => on_word::<Sinpif>(self.word),
+            Function::Cospif => on_word::<Cospif>(self.word),
+            Function::Tanpif => on_word::<Tanpif>(self.word),
         }
     }
 }
