@@ -1,28 +1,14 @@
 -- Words of finite floats, and the six functions from word to word.
-use Rattle.std.proofs.Common.{◌≡◌, ℕ, zero, suc, ◌-◌, ◌*◌, ◌%◌, ◌^◌, ◌<◌, ◌≤◌, Bool, true, false, cond, not, ◌&&◌, ◌||◌, ◌⊎◌, T, eqb, ltb, leb, sym, refl, ap, ◌∙◌, subst, arith}
-use lib.Ieee.{Float, Format, binary32, binary64, nan, inf, fin, up, down, mul, eq, is_nan, nan_bits, fits, neg, of_bits, of_fields, odd, to_bits}
+use Rattle.std.proofs.Common.{◌≡◌, ℕ, ◌-◌, ◌%◌, ◌^◌, ◌<◌, ◌≤◌, Bool, true, false, not, T, sym, refl, ap, ◌∙◌, subst, arith}
+use lib.Ieee.{Float, binary32, nan, inf, fin, is_nan, nan_bits, fits, neg, of_bits, of_fields, odd, to_bits}
 use lib.Ieee.Bits.{of_bits-to_bits, to_bits-of_bits, nan_bits_is}
-use lib.Ieee.Fits.{cond-fits, nan-fits, inf-fits, neg-fits, round-fits}
 use lib.Ieee.Bits.{of_bits-fits}
 use lib.Count.{count_trailing_zeros}
-use Rattle.std.specs.Float.{round_to_format, is_sign_negative, float_with_sign}
+use Rattle.std.specs.Float.{float_with_sign}
 use Rattle.std.proofs.num.Patterns.{below_the_nans}
 use Rattle.rounding.proofs.Signs.{copied, bits-sign}
-use Rattle.rounding.specs.Bits.{whole_bits, odd_bits}
-use Rattle.reducers.specs.Reduce.{reduce, reduce_pi, reduce_quarter}
-use Rattle.circle.specs.Circle.{exact_sine, exact_cosine}
-use Rattle.reducers.specs.Exact.{mod_turn, radian_steps}
-use Rattle.table.specs.Tangents.{tangent64}
-use Rattle.formulas.specs.Words.{size_bits, fmla, narrowed, one, zero64, minus_tiny, on_word, zero_of, sine_at, cosine_at, tangent_at}
-use Rattle.formulas.specs.Radians.{infinite, sin_near, cos_near, tan_near, sinf, cos_of, cosf, tanf}
-use Rattle.formulas.specs.HalfTurns.{pi, minus_pi3_over6, pi3_over3, sinpi_near, cospi_near, sine_by, cosine_by, by_quarter, sinpif, cospi_of, cospif, tanpi_by, tanpi_at, tanpif}
-use Rattle.formulas.specs.Distance.{Near, half_turn_steps}
-use Rattle.formulas.specs.Tangent.{Tangential, AtHalf, OffHalf, NearTangent, HalfOrNear}
-use Rattle.formulas.proofs.Floats.{at-float, near-float}
-use Rattle.formulas.proofs.Radians.{radian-sine, radian-cosine}
-use Rattle.formulas.proofs.HalfTurns.{half-turn-sine, half-turn-cosine}
-use Rattle.formulas.proofs.TangentRadians.{radian_tangent}
-use Rattle.formulas.proofs.TangentHalfTurns.{half_turn_tangent}
+use Rattle.formulas.specs.Words.{size_bits, narrowed, on_word, zero_of}
+use Rattle.formulas.specs.Radians.{infinite}
 
 -- ---- a finite word
 pub clean : (w : ℕ) → w % 2 ^ 31 < infinite → T (not (nan_bits binary32 w))
@@ -31,7 +17,7 @@ clean w h = below_the_nans binary32 w (omega arith)
 pub number : (w : ℕ) → w % 2 ^ 31 < infinite → T (not (is_nan (of_bits binary32 w)))
 number w h = subst (λ b. T (not b)) (nan_bits_is binary32 w) (clean w h)
 
-pub back : (w : ℕ) → w < 2 ^ 32 → w % 2 ^ 31 < infinite → to_bits binary32 (of_bits binary32 w) ≡ w
+back : (w : ℕ) → w < 2 ^ 32 → w % 2 ^ 31 < infinite → to_bits binary32 (of_bits binary32 w) ≡ w
 back w l h = to_bits-of_bits binary32 w l (number w h)
 
 pub size_is : (w : ℕ) → w < 2 ^ 32 → w % 2 ^ 31 < infinite → size_bits (of_bits binary32 w) ≡ w % 2 ^ 31
@@ -48,7 +34,7 @@ nan_size : infinite ≤ size_bits nan
 unfolding to_bits
 nan_size = lib.Dec.lit≤ tt
 
-pub size_not_finite : (w : ℕ) → w < 2 ^ 32 → infinite ≤ w % 2 ^ 31 → infinite ≤ size_bits (of_bits binary32 w)
+size_not_finite : (w : ℕ) → w < 2 ^ 32 → infinite ≤ w % 2 ^ 31 → infinite ≤ size_bits (of_bits binary32 w)
 size_not_finite w l h = go (of_bits binary32 w) (is_nan (of_bits binary32 w)) refl refl
   where
     go : (x : Float) (t : Bool) → x ≡ of_bits binary32 w → is_nan x ≡ t → infinite ≤ size_bits x
@@ -72,6 +58,21 @@ minus_one = refl
 
 pub minus_one_word : ◌≡◌ {A = ℕ} 3212836864 (to_bits binary32 (neg (of_bits binary32 0x3f800000)))
 minus_one_word = sym (ap (to_bits binary32) minus_one ∙ back 0xbf800000 (lib.Dec.lit< tt) (lib.Dec.lit< tt))
+
+-- ---- what f answers on a word, by the way through its definition
+module _ (f : Float → Float) (w : ℕ) where
+  -- no number
+  pub nan_way : w < 2 ^ 32 → ((x : Float) → infinite ≤ size_bits x → f x ≡ nan) → infinite ≤ w % 2 ^ 31 → 2143289344 ≡ on_word f w
+  unfolding to_bits
+  nan_way l n h = sym (ap (to_bits binary32) (n (of_bits binary32 w) (size_not_finite w l h)))
+
+  -- the float itself
+  pub same_way : w < 2 ^ 32 → w % 2 ^ 31 < infinite → f (of_bits binary32 w) ≡ of_bits binary32 w → w ≡ on_word f w
+  same_way l h e = sym (ap (to_bits binary32) e ∙ back w l h)
+
+  -- what g gives at x, narrowed
+  pub narrow_way : (g : Float → Float) → {x z v : Float} {r : ℕ} → r ≡ to_bits binary32 (narrowed v) → v ≡ g z → z ≡ x → f (of_bits binary32 w) ≡ narrowed (g x) → r ≡ on_word f w
+  narrow_way g n i d e = n ∙ ap (to_bits binary32) (ap narrowed (i ∙ ap g d) ∙ sym e)
 
 -- ---- from floats to words and back
 -- f at a float of the format, by way of words

@@ -1,5 +1,5 @@
 -- What holds of the six at each f32: the answer is an f32, and near the exact one. Laws of the trait.
-use Rattle.std.specs.Prelude.{◌≡◌, ℕ, zero, suc, ◌*◌, ◌%◌, Bool, true, false, cond, ◌&&◌, ◌||◌, ◌⊎◌, T}
+use Rattle.std.specs.Prelude.{ℕ, zero, suc, ◌*◌, ◌%◌, Bool, true, false, cond, ◌&&◌, ◌||◌, ◌⊎◌, T}
 use Rattle.std.proofs.Common.{eqb, ltb, leb}
 use lib.Ieee.{Float, Format, binary32, binary64, nan, inf, fin, up, down, mul, eq, fits, neg, of_bits}
 use lib.Ieee.Fits.{cond-fits, nan-fits, inf-fits, neg-fits, round-fits}

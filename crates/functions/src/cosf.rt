@@ -45,6 +45,7 @@ impl Circular for Cosf {
     ghost keeps = { cosf-near };
 
     // The plain path, from word to word.
+    // Kept by hand: a shape for the three of radians would take each bound, first term, polynomial and table as a parameter.
     fn at(word: u32) -> u32 {
         let x_abs = word % SIGN;
         if x_abs >= INFINITE {

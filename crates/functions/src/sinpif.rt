@@ -8,12 +8,15 @@ use crate::circular::{Circular, on_float};
 use crate::polynomial::odd;
 use crate::sincosf_eval::{cospif_eval, sinpif_eval};
 use crate::steps::by_quarter;
-use crate::word::{INFINITE, NAN, SIGN, widened, zero_like};
+use crate::word::{INFINITE, NAN, PI, SIGN, widened, zero_like};
 use rounding::{f_fmla, is_integerf, narrow_word};
+
+// -pi^3/6.
+const MINUS_PI3_OVER_6: f64 = f64::from_bits(0xc014abbce625be53);
 
 // For |x| <= 1/16, sin(pi*x)/x by even powers up to 8.
 const SINPI_NEAR: [f64; 5] = [
-    f64::from_bits(0x400921fb54442d18),
+    PI,
     f64::from_bits(0xc014abbce625bbf2),
     f64::from_bits(0x400466bc675e116a),
     f64::from_bits(0xbfe32d2c0b62d41c),
@@ -61,12 +64,7 @@ impl Circular for Sinpif {
                     return word;
                 }
                 // sin(pi*x) ~ pi*x - pi^3*x^3/6
-                let p = f_fmla(
-                    xd * xd,
-                    f64::from_bits(0xc014abbce625be53),
-                    f64::from_bits(0x400921fb54442d18),
-                );
-                return narrow_word(xd * p);
+                return narrow_word(xd * f_fmla(xd * xd, MINUS_PI3_OVER_6, PI));
             }
             return narrow_word(odd(xd, &SINPI_NEAR));
         }

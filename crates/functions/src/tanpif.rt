@@ -4,12 +4,15 @@ ghost use Rattle.formulas.specs.Tangent.{HalfOrNear};
 ghost use Rattle.functions.specs.Laws.{tanpif-fits, tanpif-near};
 
 use crate::circular::{Circular, on_float};
-use crate::word::{INFINITE, NAN, SIGN, size_bits, widened, zero_like};
+use crate::word::{INFINITE, NAN, PI, SIGN, size_bits, widened, zero_like};
 use reducers::pi::ArgumentReducerPi;
 use reducers::step_of;
 use rounding::{copysignfk, f_fmla, narrow, narrow_word};
 use std::num::{f32_to_bits_with_nan, f32_to_f64_with_nan};
 use table::tangent::{tanf_eval, tangent};
+
+// pi^3/3.
+const PI3_OVER_3: f64 = f64::from_bits(0x4024abbce625be53);
 
 // The word of 0.0001: below it two terms serve.
 const TWO_TERMS_BOUND: u32 = 0x38d1_b717;
@@ -23,12 +26,7 @@ fn tanpi_by_table(x: f32, y: f64, k: u8) -> f32
     if size_bits(x) < TWO_TERMS_BOUND {
         // tan(pi*x) ~ pi*x + pi^3*x^3/3
         let dx = f32_to_f64_with_nan(x);
-        let r = f_fmla(
-            dx * dx,
-            f64::from_bits(0x4024abbce625be53),
-            f64::from_bits(0x400921fb54442d18),
-        );
-        return narrow(r * dx);
+        return narrow(f_fmla(dx * dx, PI3_OVER_3, PI) * dx);
     }
     narrow(tangent(tanf_eval(y, k)))
 }

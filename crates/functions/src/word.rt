@@ -17,6 +17,9 @@ pub(crate) const SIGN: u32 = 0x8000_0000;
 // -2^-25.
 pub(crate) const MINUS_TINY: f64 = f64::from_bits(0xbe60000000000000);
 
+// pi.
+pub(crate) const PI: f64 = f64::from_bits(0x400921fb54442d18);
+
 // The word without its sign.
 pub fn size_bits(x: f32) -> u32
     ensures { result ≡ size_bits x }
@@ -25,6 +28,7 @@ pub fn size_bits(x: f32) -> u32
 }
 
 // The float of a finite word, as an f64.
+#[tactic(auto, using(crate::proofs::Wording::clean))]
 pub(crate) fn widened(word: u32) -> f64
     requires { word % 2 ^ 31 < infinite }
     ensures { result ≡ from_bits binary32 word }
@@ -33,6 +37,7 @@ pub(crate) fn widened(word: u32) -> f64
 }
 
 // The word of a zero with the sign of a finite word.
+#[tactic(auto, using(crate::proofs::Wording::zero_word))]
 pub(crate) fn zero_like(word: u32) -> u32
     requires { word % 2 ^ 31 < infinite }
     ensures { result ≡ to_bits binary32 (zero_of (from_bits binary32 word)) }

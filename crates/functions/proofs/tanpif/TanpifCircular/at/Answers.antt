@@ -6,12 +6,11 @@ use Rattle.table.specs.Tangents.{tangent_of, table_tangent, tan_of_y}
 use Rattle.formulas.specs.Words.{size_bits, narrowed}
 use Rattle.formulas.specs.HalfTurns.{tanpi_at, tanpif}
 use Rattle.formulas.proofs.Ways.{tanpi_table, tangent_other, tanpif-nan, tanpif-even, tanpif-rest}
-use Rattle.functions.proofs.Wording.{clean, size_is, size_not_finite}
+use Rattle.functions.proofs.Wording.{clean, size_is, nan_way}
 use Rattle.functions.proofs.tanpif.TanpifCircular.at.Goals as goal
 
 pub returns-then-x_abs-ge-INFINITE : goal.returns-then-x_abs-ge-INFINITE
-unfolding to_bits
-returns-then-x_abs-ge-INFINITE c = sym (ap (to_bits binary32) (tanpif-nan (of_bits binary32 c.args.word) (size_not_finite c.args.word c.ranges.word.fits c.if-x_abs-ge-INFINITE.true)))
+returns-then-x_abs-ge-INFINITE c = nan_way tanpif c.args.word c.ranges.word.fits tanpif-nan c.if-x_abs-ge-INFINITE.true
 
 pub returns-then-x_abs-ge1266679808 : goal.returns-then-x_abs-ge1266679808
 returns-then-x_abs-ge1266679808 c =
