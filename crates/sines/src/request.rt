@@ -16,6 +16,7 @@ pub enum Function {
 
 impl Function {
     // The function of that name.
+    // Kept by hand: TryFrom would name an error that says no more than None.
     pub fn named(name: &[u8]) -> Option<Function>
         ensures { Named name.now result }
     {
@@ -56,6 +57,7 @@ impl Request {
     }
 
     // The function's word at the word.
+    // Kept by hand: the six are a closed set, and each arm calls its own type's function, with no table at run time.
     pub fn result(self) -> u32
         ensures { result ≡ result_of self }
     {
@@ -71,15 +73,10 @@ impl Request {
 }
 
 // The value of a hex digit, in either case.
-fn digit(b: u8) -> Option<u8>
+fn digit(b: u8) -> Option<u32>
     ensures { result ≡ digit_of b }
 {
-    match b {
-        b'0'..=b'9' => Some(b - b'0'),
-        b'a'..=b'f' => Some(b - b'a' + 10),
-        b'A'..=b'F' => Some(b - b'A' + 10),
-        _ => None,
-    }
+    char::from(b).to_digit(16)
 }
 
 // The word that eight hex digits write.
@@ -87,10 +84,6 @@ fn word_of(text: &[u8]) -> Option<u32>
     requires { length text.now ≡ 8 }
     ensures { result ≡ word_of 0 text.now }
 {
-    let mut word = 0;
-    for b in text {
-        let d = digit(*b)?;
-        word = word * 16 + u32::from(d);
-    }
-    Some(word)
+    text.iter()
+        .try_fold(0, |word: u32, b| Some(word << 4 | digit(*b)?))
 }
