@@ -24,7 +24,7 @@ pub trait Circular {
     ghost keeps: { (x : Float) → T (fits binary32 x) → near x (answer x) };
 }
 
-// The function on words.
+// The function on words, near the exact one as on floats. A NaN's word is 7fc00000.
 pub fn on_word<F: Circular>(word: u32) -> u32
     ensures is { result ≡ on_word F.answer word }
     ensures near { F.near (from_bits binary32 word) (from_bits binary32 result) }
@@ -32,7 +32,7 @@ pub fn on_word<F: Circular>(word: u32) -> u32
     F::at(word)
 }
 
-// The function on floats.
+// The function on floats, by way of words.
 pub fn on_float<F: Circular>(x: f32) -> f32
     ensures is { result ≡ F.answer x }
     ensures near { F.near x result }

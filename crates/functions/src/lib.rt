@@ -12,6 +12,7 @@ mod tanf;
 mod tanpif;
 mod word;
 
+// Kept by hand: f_sinf and its five like are pxfm's names of on_float at each function.
 pub use circular::{Circular, on_float, on_word};
 pub use cosf::{Cosf, f_cosf};
 pub use cospif::{Cospif, f_cospif};

@@ -11,6 +11,7 @@ ghost use Rattle.formulas.specs.Words.{on_word};
 ghost use Rattle.formulas.specs.Radians.{sinf, cosf, tanf};
 ghost use Rattle.formulas.specs.HalfTurns.{sinpif, cospif, tanpif};
 
+// Kept by hand: C calls each by its own name, and what is exported takes no type parameter.
 use functions::{Cosf, Cospif, Sinf, Sinpif, Tanf, Tanpif, on_word};
 
 #[unsafe(no_mangle)]

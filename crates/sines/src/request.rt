@@ -44,15 +44,9 @@ impl Request {
     pub fn read(line: &[u8]) -> Option<Request>
         ensures { Read line.now result }
     {
-        if line.len() < 9 {
-            return None;
-        }
-        let (name, rest) = line.split_at(line.len() - 9);
-        if rest[0] != b' ' {
-            return None;
-        }
+        let (name, rest) = line.split_at(line.len().checked_sub(9)?);
         let function = Function::named(name)?;
-        let word = word_of(&rest[1..])?;
+        let word = word_of(rest.strip_prefix(b" ")?)?;
         Some(Request { function, word })
     }
 
