@@ -8,7 +8,7 @@ ghost use Rattle.circle.specs.Circle.{exact_sine, exact_cosine};
 ghost use Rattle.table.specs.Sines.{table_sine, table_cosine, sin_of_y, cosm1_of_y, sum_of, sine_of, cosine_of};
 ghost use Rattle.table.specs.Against.{TableSines, TableCosines, TableTangents, SineAgainst, CosineAgainst, TangentAgainst, TangentNearer};
 
-use forms::{Form, f_polyeval3, f_polyeval4};
+use forms::{Form, f_polyeval};
 
 pub mod tangent;
 
@@ -89,7 +89,7 @@ fn table_sine(k: u8) -> f64
 }
 
 // The entries of the tables, and the polynomials of the rest y against the series.
-pub fn table_laws() -> u8
+pub fn table_laws()
     ensures sines { TableSines }
     ensures cosines { TableCosines }
     ensures tangents { TableTangents }
@@ -97,9 +97,7 @@ pub fn table_laws() -> u8
     ensures cosine { CosineAgainst }
     ensures tangent { TangentAgainst }
     ensures nearer { TangentNearer }
-{
-    0
-}
+{}
 
 // A step's sine and cosine, and those of the rest y, in one form.
 #[derive(Clone, Copy)]
@@ -121,19 +119,23 @@ pub fn sincosf_eval<T: Form>(y: f64, k: u8) -> SinCosf<T>
     let y_sqr = T::multiply(v, v);
     let sin_k = T::make(table_sine(k));
     let cos_k = T::make(table_sine(k % 64 + 16));
-    let p = f_polyeval4(
+    let p = f_polyeval(
         y_sqr,
-        T::make(f64::from_bits(0x3fb921fb54442d18)),
-        T::make(f64::from_bits(0xbf24abbce625abb1)),
-        T::make(f64::from_bits(0x3e7466bc624f2776)),
-        T::make(f64::from_bits(0xbdb32c3a619d4a7e)),
+        &[
+            T::make(f64::from_bits(0x3fb921fb54442d18)),
+            T::make(f64::from_bits(0xbf24abbce625abb1)),
+            T::make(f64::from_bits(0x3e7466bc624f2776)),
+            T::make(f64::from_bits(0xbdb32c3a619d4a7e)),
+        ],
     );
     let sin_y = T::multiply(v, p);
-    let q = f_polyeval3(
+    let q = f_polyeval(
         y_sqr,
-        T::make(f64::from_bits(0xbf73bd3cc9be430b)),
-        T::make(f64::from_bits(0x3ed03c1f070c2e27)),
-        T::make(f64::from_bits(0xbe155cc84bd94200)),
+        &[
+            T::make(f64::from_bits(0xbf73bd3cc9be430b)),
+            T::make(f64::from_bits(0x3ed03c1f070c2e27)),
+            T::make(f64::from_bits(0xbe155cc84bd94200)),
+        ],
     );
     let cosm1_y = T::multiply(y_sqr, q);
     SinCosf {
