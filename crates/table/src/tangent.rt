@@ -77,7 +77,7 @@ fn table_tangent(k: u8) -> f64
     ensures is { result ≡ table_tangent (k % 64) }
     ensures near { TangentNear result (k % 64) }
 {
-    f64::from_bits(TAN_K_PI_OVER32[(k % 64) as usize])
+    f64::from_bits(TAN_K_PI_OVER32[usize::from(k % 64)])
 }
 
 // The tangents of a step and of the rest y.
