@@ -16,7 +16,7 @@ pub fn tried_values() -> u8
 }
 
 // The polynomials of the six functions are near the series on the whole of their intervals.
-pub fn polynomials() -> u8
+pub fn polynomials()
     ensures sine { SineSeries }
     ensures cosine { CosineSeries }
     ensures tangent { TangentSeries }
@@ -24,27 +24,21 @@ pub fn polynomials() -> u8
     ensures half_cosine { HalfCosineSeries }
     ensures quarter_sine { QuarterSineSeries }
     ensures quarter_cosine { QuarterCosineSeries }
-{
-    0
-}
+{}
 
 // The sines and cosines, at every word, are within half a spacing and 2^-36 of the exact ones.
-pub fn sine_distances() -> u8
+pub fn sine_distances()
     ensures radian_sine { RadianSine }
     ensures radian_cosine { RadianCosine }
     ensures half_turn_sine { HalfTurnSine }
     ensures half_turn_cosine { HalfTurnCosine }
     ensures not_finite { NotFinite }
-{
-    0
-}
+{}
 
 // The tangents, at every word: times the exact cosine within 2^-23 and a 2^-35 part of the answer of the exact sine;
 // infinite at halves of half turns alone.
-pub fn tangent_distances() -> u8
+pub fn tangent_distances()
     ensures radian { RadianTangent }
     ensures half_turn { HalfTurnTangent }
     ensures not_finite { TangentsNotFinite }
-{
-    0
-}
+{}

@@ -3,72 +3,66 @@ ghost use Rattle.reducers.specs.Reduce.{reduce as reduced};
 ghost use Rattle.circle.specs.Circle.{exact_cosine};
 ghost use Rattle.formulas.specs.Distance.{Near};
 ghost use Rattle.reducers.specs.Exact.{radian_steps};
-ghost use Rattle.formulas.specs.Words.{cosine_at, on_word};
-ghost use Rattle.formulas.specs.Radians.{cos_near, cosf};
+ghost use Rattle.formulas.specs.Words.{cosine_at};
+ghost use Rattle.formulas.specs.Radians.{cosf};
+ghost use Rattle.functions.specs.Laws.{cosf-fits, cosf-near};
 
-use crate::word::{INFINITE, NAN, SIGN, widened};
-use forms::f_polyeval5;
-use reducers::{ArgumentReducer, SMALL_PASS_BOUND, step_of};
+use crate::circular::{Circular, on_float};
+use crate::polynomial::even;
+use crate::steps::steps;
+use crate::word::{INFINITE, MINUS_TINY, NAN, SIGN, widened};
 use rounding::{f_fmla, narrow_word};
-use std::num::{f32_from_bits_with_nan, f32_to_bits_with_nan};
 use table::{cosine, sincosf_eval};
 
 // For |x| <= pi/16, by even powers up to 8.
-fn cos_near(xd: f64) -> f64
-    ensures { result ≡ cos_near xd }
-{
-    let x2 = xd * xd;
-    f_polyeval5(
-        x2,
-        f64::from_bits(0x3ff0000000000000),
-        f64::from_bits(0xbfdffffffffffcea),
-        f64::from_bits(0x3fa55555553d611a),
-        f64::from_bits(0xbf56c16b2e26561a),
-        f64::from_bits(0x3ef9faa67b9da80b),
-    )
-}
+const COS_NEAR: [f64; 5] = [
+    f64::from_bits(0x3ff0000000000000),
+    f64::from_bits(0xbfdffffffffffcea),
+    f64::from_bits(0x3fa55555553d611a),
+    f64::from_bits(0xbf56c16b2e26561a),
+    f64::from_bits(0x3ef9faa67b9da80b),
+];
 
 // cos(x) = cos((k + y)*pi/32), by the table.
 fn cos_by_table(x: f64, x_abs: u32) -> f64
     ensures { result ≡ cosine_at (reduced x x_abs) }
 {
-    let reducer = ArgumentReducer { x, x_abs };
-    // The small pass, which is the common one, is called from here.
-    let (y, k) = if x_abs < SMALL_PASS_BOUND {
-        reducer.reduce_small()
-    } else {
-        reducer.reduce()
-    };
-    let rs = sincosf_eval::<f64>(y, step_of(k));
+    let (y, k) = steps(x, x_abs);
+    let rs = sincosf_eval::<f64>(y, k);
     cosine(rs, -rs.sin_k)
 }
 
-// The plain path, from word to word.
-pub(crate) fn cosf_word(word: u32) -> u32
-    ensures { result ≡ on_word cosf word }
-{
-    let x_abs = word % SIGN;
-    if x_abs >= INFINITE {
-        return NAN;
-    }
-    let xd = widened(x_abs);
+// The cosine of radians.
+pub struct Cosf;
 
-    // |x| <= pi/16
-    if x_abs <= 0x3e49_0fdb {
-        // |x| < 0.000244141
-        if x_abs < 0x3980_0000 {
-            return narrow_word(f_fmla(xd, f64::from_bits(0xbe60000000000000), 1.0));
+impl Circular for Cosf {
+    ghost answer = { cosf };
+
+    ghost near = { λ x r. Near x r (exact_cosine (radian_steps x)) };
+
+    ghost stays = { cosf-fits };
+
+    ghost keeps = { cosf-near };
+
+    // The plain path, from word to word.
+    // Kept by hand: a shape for the three of radians would take each bound, first term, polynomial and table as a parameter.
+    fn at(word: u32) -> u32 {
+        let x_abs = word % SIGN;
+        if x_abs >= INFINITE {
+            return NAN;
         }
-        return narrow_word(cos_near(xd));
-    }
-    narrow_word(cos_by_table(xd, x_abs))
-}
+        let xd = widened(x_abs);
 
-// The same on floats.
-fn cosf_gen_impl(x: f32) -> f32
-    ensures { result ≡ cosf x }
-{
-    f32_from_bits_with_nan(cosf_word(f32_to_bits_with_nan(x)))
+        // |x| <= pi/16
+        if x_abs <= 0x3e49_0fdb {
+            // |x| < 0.000244141
+            if x_abs < 0x3980_0000 {
+                return narrow_word(f_fmla(xd, MINUS_TINY, 1.0));
+            }
+            return narrow_word(even(xd, &COS_NEAR));
+        }
+        narrow_word(cos_by_table(xd, x_abs))
+    }
 }
 
 // The cosine of x radians, within half a spacing at the answer and 2^-36 of the exact one.
@@ -76,5 +70,5 @@ pub fn f_cosf(x: f32) -> f32
     ensures is { result ≡ cosf x }
     ensures near { Near x result (exact_cosine (radian_steps x)) }
 {
-    cosf_gen_impl(x)
+    on_float::<Cosf>(x)
 }

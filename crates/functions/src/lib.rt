@@ -1,21 +1,23 @@
 #![tactic(auto)]
 
+mod circular;
 mod cosf;
 mod cospif;
+mod polynomial;
 mod sincosf_eval;
 mod sinf;
 mod sinpif;
+mod steps;
 mod tanf;
 mod tanpif;
 mod word;
 
-pub use cosf::f_cosf;
-pub use cospif::f_cospif;
+// Kept by hand: f_sinf and its five like are pxfm's names of on_float at each function.
+pub use circular::{Circular, on_float, on_word};
+pub use cosf::{Cosf, f_cosf};
+pub use cospif::{Cospif, f_cospif};
 pub use sincosf_eval::{cospif_eval, sinpif_eval};
-pub use sinf::f_sinf;
-pub use sinpif::f_sinpif;
-pub use tanf::f_tanf;
-pub use tanpif::f_tanpif;
-pub use word::{
-    luhvend_cosf, luhvend_cospif, luhvend_sinf, luhvend_sinpif, luhvend_tanf, luhvend_tanpif,
-};
+pub use sinf::{Sinf, f_sinf};
+pub use sinpif::{Sinpif, f_sinpif};
+pub use tanf::{Tanf, f_tanf};
+pub use tanpif::{Tanpif, f_tanpif};

@@ -1,14 +1,18 @@
 ghost use Rattle.std.specs.Prelude.{◌≡◌, ◌<◌};
-ghost use Rattle.formulas.specs.Words.{on_word};
 ghost use Rattle.formulas.specs.HalfTurns.{tanpi_by, tanpi_at, tanpif};
 ghost use Rattle.formulas.specs.Tangent.{HalfOrNear};
+ghost use Rattle.functions.specs.Laws.{tanpif-fits, tanpif-near};
 
-use crate::word::{INFINITE, NAN, SIGN, size_bits, widened, zero_like};
+use crate::circular::{Circular, on_float};
+use crate::word::{INFINITE, NAN, PI, SIGN, size_bits, widened, zero_like};
 use reducers::pi::ArgumentReducerPi;
 use reducers::step_of;
-use rounding::{copysignfk, f_fmla, narrow, narrow_word};
-use std::num::{f32_from_bits_with_nan, f32_to_bits_with_nan, f32_to_f64_with_nan};
+use rounding::{copysign, f_fmla, narrow, narrow_word};
+use std::num::{f32_to_bits_with_nan, f32_to_f64_with_nan};
 use table::tangent::{tanf_eval, tangent};
+
+// pi^3/3.
+const PI3_OVER_3: f64 = f64::from_bits(0x4024abbce625be53);
 
 // The word of 0.0001: below it two terms serve.
 const TWO_TERMS_BOUND: u32 = 0x38d1_b717;
@@ -22,12 +26,7 @@ fn tanpi_by_table(x: f32, y: f64, k: u8) -> f32
     if size_bits(x) < TWO_TERMS_BOUND {
         // tan(pi*x) ~ pi*x + pi^3*x^3/3
         let dx = f32_to_f64_with_nan(x);
-        let r = f_fmla(
-            dx * dx,
-            f64::from_bits(0x4024abbce625be53),
-            f64::from_bits(0x400921fb54442d18),
-        );
-        return narrow(r * dx);
+        return narrow(f_fmla(dx * dx, PI3_OVER_3, PI) * dx);
     }
     narrow(tangent(tanf_eval(y, k)))
 }
@@ -40,8 +39,8 @@ fn tanpi_at(x: f32, y: f64, k: u8) -> f32
     let is_odd = k >= 32;
     match k % 32 {
         // Whole numbers: the sign of x if even, its opposite if odd.
-        0 if y == 0.0 && is_odd => -copysignfk(0.0, x),
-        0 if y == 0.0 => copysignfk(0.0, x),
+        0 if y == 0.0 && is_odd => -copysign(0.0, x),
+        0 if y == 0.0 => copysign(0.0, x),
         // Halves: positive after an even number, negative after an odd one.
         16 if y == 0.0 && is_odd => f32::NEG_INFINITY,
         16 if y == 0.0 => f32::INFINITY,
@@ -51,33 +50,37 @@ fn tanpi_at(x: f32, y: f64, k: u8) -> f32
     }
 }
 
-// The plain path, from word to word.
-pub(crate) fn tanpif_word(word: u32) -> u32
-    ensures { result ≡ on_word tanpif word }
-{
-    let x_abs = word % SIGN;
-    if x_abs >= INFINITE {
-        return NAN;
-    }
-    // Numbers greater or equal to 2^24 are always even.
-    if x_abs >= 0x4b80_0000 {
-        return zero_like(word);
-    }
-    let (y, k) = ArgumentReducerPi { x: widened(word) }.reduce();
-    let k = step_of(k);
-    // Near zero, and where y is zero, as it is at quarters.
-    if x_abs < TWO_TERMS_BOUND || y == 0.0 {
-        return f32_to_bits_with_nan(tanpi_at(f32::from_bits(word), y, k));
-    }
-    // Elsewhere the table alone serves.
-    narrow_word(tangent(tanf_eval(y, k)))
-}
+// The tangent of half turns.
+pub struct Tanpif;
 
-// The same on floats.
-fn tanpif_gen_impl(x: f32) -> f32
-    ensures { result ≡ tanpif x }
-{
-    f32_from_bits_with_nan(tanpif_word(f32_to_bits_with_nan(x)))
+impl Circular for Tanpif {
+    ghost answer = { tanpif };
+
+    ghost near = { HalfOrNear };
+
+    ghost stays = { tanpif-fits };
+
+    ghost keeps = { tanpif-near };
+
+    // The plain path, from word to word.
+    fn at(word: u32) -> u32 {
+        let x_abs = word % SIGN;
+        if x_abs >= INFINITE {
+            return NAN;
+        }
+        // Numbers greater or equal to 2^24 are always even.
+        if x_abs >= 0x4b80_0000 {
+            return zero_like(word);
+        }
+        let (y, k) = ArgumentReducerPi { x: widened(word) }.reduce();
+        let k = step_of(k);
+        // Near zero, and where y is zero, as it is at quarters.
+        if x_abs < TWO_TERMS_BOUND || y == 0.0 {
+            return f32_to_bits_with_nan(tanpi_at(f32::from_bits(word), y, k));
+        }
+        // Elsewhere the table alone serves.
+        narrow_word(tangent(tanf_eval(y, k)))
+    }
 }
 
 // The tangent of x half turns: infinite at whole numbers and a half alone, and times the exact cosine near the exact sine.
@@ -85,5 +88,5 @@ pub fn f_tanpif(x: f32) -> f32
     ensures is { result ≡ tanpif x }
     ensures near { HalfOrNear x result }
 {
-    tanpif_gen_impl(x)
+    on_float::<Tanpif>(x)
 }

@@ -11,12 +11,15 @@ ghost use Rattle.formulas.specs.Words.{on_word};
 ghost use Rattle.formulas.specs.Radians.{sinf, cosf, tanf};
 ghost use Rattle.formulas.specs.HalfTurns.{sinpif, cospif, tanpif};
 
+// Kept by hand: C calls each by its own name, and what is exported takes no type parameter.
+use functions::{Cosf, Cospif, Sinf, Sinpif, Tanf, Tanpif, on_word};
+
 #[unsafe(no_mangle)]
 pub extern "C" fn luhvend_sinf(word: u32) -> u32
     ensures is { result ≡ on_word sinf word }
     ensures near { Near (from_bits binary32 word) (from_bits binary32 result) (exact_sine (radian_steps (from_bits binary32 word))) }
 {
-    functions::luhvend_sinf(word)
+    on_word::<Sinf>(word)
 }
 
 #[unsafe(no_mangle)]
@@ -24,7 +27,7 @@ pub extern "C" fn luhvend_cosf(word: u32) -> u32
     ensures is { result ≡ on_word cosf word }
     ensures near { Near (from_bits binary32 word) (from_bits binary32 result) (exact_cosine (radian_steps (from_bits binary32 word))) }
 {
-    functions::luhvend_cosf(word)
+    on_word::<Cosf>(word)
 }
 
 #[unsafe(no_mangle)]
@@ -32,7 +35,7 @@ pub extern "C" fn luhvend_tanf(word: u32) -> u32
     ensures is { result ≡ on_word tanf word }
     ensures near { NearTangent (from_bits binary32 word) (from_bits binary32 result) (radian_steps (from_bits binary32 word)) }
 {
-    functions::luhvend_tanf(word)
+    on_word::<Tanf>(word)
 }
 
 #[unsafe(no_mangle)]
@@ -40,7 +43,7 @@ pub extern "C" fn luhvend_sinpif(word: u32) -> u32
     ensures is { result ≡ on_word sinpif word }
     ensures near { Near (from_bits binary32 word) (from_bits binary32 result) (exact_sine (half_turn_steps (from_bits binary32 word))) }
 {
-    functions::luhvend_sinpif(word)
+    on_word::<Sinpif>(word)
 }
 
 #[unsafe(no_mangle)]
@@ -48,7 +51,7 @@ pub extern "C" fn luhvend_cospif(word: u32) -> u32
     ensures is { result ≡ on_word cospif word }
     ensures near { Near (from_bits binary32 word) (from_bits binary32 result) (exact_cosine (half_turn_steps (from_bits binary32 word))) }
 {
-    functions::luhvend_cospif(word)
+    on_word::<Cospif>(word)
 }
 
 #[unsafe(no_mangle)]
@@ -56,5 +59,5 @@ pub extern "C" fn luhvend_tanpif(word: u32) -> u32
     ensures is { result ≡ on_word tanpif word }
     ensures near { HalfOrNear (from_bits binary32 word) (from_bits binary32 result) }
 {
-    functions::luhvend_tanpif(word)
+    on_word::<Tanpif>(word)
 }

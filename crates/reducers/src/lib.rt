@@ -1,12 +1,13 @@
 #![tactic(auto)]
 
-ghost use Rattle.std.specs.Prelude.{◌≡◌, ℕ, ◌%◌, ◌<◌, ◌≤◌, pos, ◌≢◌, from_bits, slice_index_or};
+ghost use Rattle.std.specs.Prelude.{◌≡◌, ℕ, ◌%◌, ◌<◌, ◌≤◌, ◌≢◌, from_bits};
 ghost use Rattle.std.specs.Float.{binary32};
+ghost use Rattle.std.specs.List.{prefix_len};
 ghost use Rattle.reducers.specs.Exact.{field, mod_turn, Reduced, PartsAreRight, LowestBits, LowestDigits, SkippedAreWholeTurns};
-ghost use Rattle.reducers.specs.Reduce.{reduce_small, reduce_large, skips, lowest, leading, whole_turns, part, exponent_of};
+ghost use Rattle.reducers.specs.Reduce.{reduce_small, reduce_large, skips, leading, whole_turns, part};
 ghost use Rattle.reducers.specs.Reduce.{reduce as reduced};
 
-use rounding::{f_fmla, round_counted};
+use rounding::{exponent_of_bits, f_fmla, round_counted};
 
 #[derive(Clone, Copy)]
 pub struct ArgumentReducer {
@@ -14,26 +15,65 @@ pub struct ArgumentReducer {
     pub x_abs: u32,
 }
 
-// 32 / pi in eight parts, the first seven of at most 28 binary digits.
-static THIRTYTWO_OVER_PI: [u64; 8] = [
-    0x40245f306e000000,
-    0xbe3b1bbeae000000,
-    0x3c63f84eb0000000,
-    0xba87056592000000,
-    0x38bc0db62a000000,
-    0xb6e4cd8778000000,
-    0xb51bef806c000000,
-    0x33363abdebbc561b,
-];
+// A part of 32 / pi, and the exponent of its lowest bit.
+#[derive(Clone, Copy)]
+struct Part {
+    bits: u64,
+    lsb_exp: i32,
+}
 
-// Exponents of the lowest bits of the parts.
-static THIRTYTWO_OVER_PI_28_LSB_EXP: [i64; 8] = [-24, -55, -81, -114, -143, -170, -200, -230];
+impl Part {
+    // Whether the product of the part and a float of this exponent is a multiple of 64.
+    fn is_whole_turns(self, exponent: i32) -> bool
+        ensures { result ≡ whole_turns exponent self.lsb_exp }
+    {
+        const FRACTION_LEN: i64 = 23;
+        let x_lsb_exp = i64::from(exponent) - FRACTION_LEN;
+        x_lsb_exp + i64::from(self.lsb_exp) > 5
+    }
+}
+
+// 32 / pi in eight parts, the first seven of at most 28 binary digits.
+static THIRTYTWO_OVER_PI: [Part; 8] = [
+    Part {
+        bits: 0x40245f306e000000,
+        lsb_exp: -24,
+    },
+    Part {
+        bits: 0xbe3b1bbeae000000,
+        lsb_exp: -55,
+    },
+    Part {
+        bits: 0x3c63f84eb0000000,
+        lsb_exp: -81,
+    },
+    Part {
+        bits: 0xba87056592000000,
+        lsb_exp: -114,
+    },
+    Part {
+        bits: 0x38bc0db62a000000,
+        lsb_exp: -143,
+    },
+    Part {
+        bits: 0xb6e4cd8778000000,
+        lsb_exp: -170,
+    },
+    Part {
+        bits: 0xb51bef806c000000,
+        lsb_exp: -200,
+    },
+    Part {
+        bits: 0x33363abdebbc561b,
+        lsb_exp: -230,
+    },
+];
 
 fn thirtytwo_over_pi(i: usize) -> f64
     requires { i < 8 }
     ensures { result ≡ part i }
 {
-    f64::from_bits(THIRTYTWO_OVER_PI[i])
+    f64::from_bits(THIRTYTWO_OVER_PI[i].bits)
 }
 
 // How many parts there are. Their sum is 32 / pi but for 2^-230.
@@ -44,14 +84,14 @@ pub fn parts() -> usize
     THIRTYTWO_OVER_PI.len()
 }
 
-// Whether the product of the i-th part and a float of this exponent is a multiple of 64.
-fn is_whole_turns(exponent: i32, i: usize) -> bool
-    requires { i < 8 }
-    ensures { result ≡ whole_turns exponent (slice_index_or lowest i (pos 0)) }
+// How many parts lead whose products with a float of this exponent are multiples of 64.
+fn whole_turns_len(parts: &[Part], exponent: i32) -> usize
+    ensures { result ≡ prefix_len (λ part. whole_turns exponent part.lsb_exp) parts.now }
 {
-    const FRACTION_LEN: i64 = 23;
-    let x_lsb_exp = exponent as i64 - FRACTION_LEN;
-    x_lsb_exp + THIRTYTWO_OVER_PI_28_LSB_EXP[i] > 5
+    parts
+        .iter()
+        .take_while(|part| part.is_whole_turns(exponent))
+        .count()
 }
 
 // How many parts to skip: at most four, so that four are left.
@@ -59,27 +99,15 @@ fn skipped(exponent: i32) -> usize
     ensures is { result ≡ skips leading exponent }
     ensures few { result ≤ 4 }
 {
-    let mut idx: usize = 0;
-    while idx < 4 && is_whole_turns(exponent, idx) {
-        idx += 1;
-    }
-    idx
+    whole_turns_len(&THIRTYTWO_OVER_PI[..4], exponent)
 }
 
 // Why parts may be skipped: their products with the float are multiples of 64.
-pub fn skip_rule() -> u8
+pub fn skip_rule()
     ensures parts { LowestBits }
     ensures floats { LowestDigits }
     ensures skipped { SkippedAreWholeTurns }
-{
-    0
-}
-
-fn get_exponent_f32(bits: u32) -> i32
-    ensures { result ≡ exponent_of bits }
-{
-    ((bits >> 23) & 0xff) as i32 - 127
-}
+{}
 
 // The word of 2^22: floats below it are reduced by the first three parts.
 pub const SMALL_PASS_BOUND: u32 = 0x4a80_0000;
@@ -125,7 +153,7 @@ impl ArgumentReducer {
         if self.x_abs < SMALL_PASS_BOUND {
             self.reduce_small()
         } else {
-            self.reduce_large(get_exponent_f32(self.x_abs))
+            self.reduce_large(exponent_of_bits::<f32>(u64::from(self.x_abs)) as i32)
         }
     }
 }

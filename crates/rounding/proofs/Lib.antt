@@ -1,3 +1,4 @@
+pub mod Patterns
 pub mod Fields
 pub mod Half
 pub mod Rounds

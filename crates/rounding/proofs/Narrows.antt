@@ -2,15 +2,14 @@
 use Rattle.std.proofs.Common.{◌≡◌, ℕ, zero, suc, ◌+◌, ◌-◌, ◌*◌, ◌/◌, ◌%◌, ◌^◌, ◌<◌, ◌≤◌, Bool, true, false, cond, not, T, ltb, leb, sym, refl, ap, ◌∙◌, subst, le_trans, le_of_eq, lt_of_lt_of_le, mul-le-mul_right, zero-lt-suc, mul_assoc, div-lt_iff_lt-mul, le_antisymm, mul-lt-mul_of_pos_right, mul-pos, lt_of_not-le, le-div_iff_mul-le, not-le_of_lt, arith, lit<, le→leb, ltb→lt, lt→ltb, nltb→le, pow_pos, pow_mono, pow-add, shl_lt}
 use Prim.Native.Nat.{compare, Ordering}
 use lib.Count.{count_trailing_zeros}
-use lib.Ieee.{Float, Format, binary32, binary64, nan, inf, fin, prec, emax, low, up, down, size, nearest, odd, units, round, of_fields, of_bits, to_bits, fits, is_nan, eq, ne}
+use lib.Ieee.{Float, Format, binary32, binary64, nan, inf, fin, prec, emax, low, up, down, size, nearest, odd, units, round, of_fields, of_bits, to_bits, fits, is_nan, nan_bits}
 use lib.Ieee.Exact.{HasValue}
 use lib.Ieee.Digits.{size-lt, size-le}
-use lib.Ieee.Fits.{round_is, down_pos, nearest-le}
-use lib.Ieee.Bits.{is_true, is_false, of_bits-to_bits, to_bits-of_bits}
+use lib.Ieee.Fits.{round_is, round-fits, down_pos, nearest-le}
+use lib.Ieee.Bits.{nan_bits_is, is_true, is_false, of_bits-to_bits, to_bits-of_bits}
 use lib.Ieee.Nearest.{closest, closest_same, div_same, nearest-ge}
 use lib.Ieee.Scale.{round_same}
 use Rattle.std.specs.Float.{round_to_format}
-use Rattle.std.proofs.num.Patterns.{differs}
 use Rattle.rounding.specs.Round.{exponent_field}
 use Rattle.rounding.specs.Narrowing.{narrow_bits}
 use Rattle.rounding.proofs.Fields.{fields, sign, pattern-is}
@@ -248,19 +247,30 @@ nearest-number f nan h = h
 nearest-number f (inf s) h = tt
 nearest-number f (fin s m e) h = round_number f s (m * up e) (down e)
 
--- ---- the words
-no_nan : (x : Float) → T (not (is_nan x)) → ne x x ≡ true → ⊥
-no_nan x n h = subst (λ b. T (not b)) (sym (differs x) ∙ h) n
+pub narrowed_fits : (f : Format) (x : Float) → T (fits f (round_to_format f x))
+unfolding round_to_format fits
+narrowed_fits f nan = tt
+narrowed_fits f (inf s) = tt
+narrowed_fits f (fin s m e) = round-fits f s (m * up e) (down e)
 
+-- ---- the words
 -- that of a NaN
-pub nan-word : (x : Float) → ne x x ≡ true → ◌≡◌ {A = ℕ} 2143289344 (to_bits binary32 (round_to_format binary32 x))
-unfolding ne eq round_to_format to_bits is_nan
+pub nan-word : (x : Float) → is_nan x ≡ true → ◌≡◌ {A = ℕ} 2143289344 (to_bits binary32 (round_to_format binary32 x))
+unfolding round_to_format to_bits is_nan
 nan-word nan h = refl
-nan-word (inf s) h = absurd (no_nan (inf s) tt h)
-nan-word (fin s m e) h = absurd (no_nan (fin s m e) tt h)
+nan-word (inf s) h = cc
+nan-word (fin s m e) h = cc
 
 -- that of the nearest f32
 pub narrow-word-joined : (x : Float) (c : ℕ) → T (fits binary64 x) → T (not (is_nan x)) → 897 ≤ exponent_field binary64 (to_bits binary64 x) → exponent_field binary64 (to_bits binary64 x) ≤ 1150 → c < 4294967296 → c ≡ narrow_bits (to_bits binary64 x) → c ≡ to_bits binary32 (round_to_format binary32 x)
 narrow-word-joined x c h n lo hi l C =
     let e : of_bits binary32 c ≡ round_to_format binary32 x = narrow-joined x (of_bits binary32 c) (to_bits binary64 x) c h refl lo hi C refl in
     sym (to_bits-of_bits binary32 c l (subst (λ z. T (not (is_nan z))) (sym e) (nearest-number binary32 x n))) ∙ ap (to_bits binary32) e
+
+-- the f32 of the word of what is narrowed
+pub narrowed : (x : Float) (w : ℕ) → w ≡ to_bits binary32 (round_to_format binary32 x) → of_bits binary32 w ≡ round_to_format binary32 x
+narrowed x w e = ap (of_bits binary32) e ∙ of_bits-to_bits binary32 (round_to_format binary32 x) (narrowed_fits binary32 x)
+
+-- is no NaN's, unless x is one
+pub number_word : (x : Float) (w : ℕ) → T (not (is_nan x)) → w ≡ to_bits binary32 (round_to_format binary32 x) → T (not (nan_bits binary32 w))
+number_word x w n e = subst (λ b. T (not b)) (sym (nan_bits_is binary32 w ∙ ap is_nan (narrowed x w e))) (nearest-number binary32 x n)

@@ -1,5 +1,5 @@
 -- Rounding on the pattern is rounding to the nearest whole number, halves away from zero, in each format.
-use Rattle.std.proofs.Common.{◌≡◌, ℕ, zero, suc, ◌+◌, ◌-◌, ◌*◌, ◌/◌, ◌%◌, ◌^◌, ◌<◌, ◌≤◌, Bool, true, false, cond, not, T, eqb, ltb, sym, refl, ap, ◌∙◌, subst, le_trans, le_of_eq, lt_of_lt_of_le, mul-le-mul_right, zero-lt-suc, mul_assoc, mul_comm, le_antisymm, pow-suc, mul-div_cancel, arith, lit<, lit≤, ltb→lt, nltb→le, pow_pos, pow_mono, pow-add, shl_lt}
+use Rattle.std.proofs.Common.{◌≡◌, ℕ, zero, suc, ◌+◌, ◌-◌, ◌*◌, ◌/◌, ◌%◌, ◌^◌, ◌<◌, ◌≤◌, Bool, true, false, cond, not, T, eqb, ltb, sym, refl, ap, ◌∙◌, subst, le_trans, le_of_eq, lt_of_lt_of_le, mul-le-mul_right, zero-lt-suc, mul_assoc, mul_comm, le_antisymm, mod-eq_of_lt, pow-suc, mul-div_cancel, arith, lit<, lit≤, ltb→lt, nltb→le, pow_pos, pow_mono, pow-add, shl_lt}
 use native.Mathlib.Nat.{eq_of_mul-eq-mul_right}
 use lib.Ieee.{Float, Format, binary32, binary64, nan, inf, fin, prec, emax, low, hid, ones, top, up, down, of_bits, of_fields, odd, round, fits}
 use lib.Ieee.Exact.{HasValue}
@@ -10,6 +10,8 @@ use Rattle.std.specs.Float.{float_round, round_with, ratio_round_half_up}
 use Rattle.rounding.specs.Round.{exponent_field, sign_bit, cut_at, round_bits}
 use Rattle.exact.proofs.Away.{Parts, fits-parts, away-exact}
 use Rattle.rounding.proofs.Fields.{fields, fields-zero, sign, pattern-is, Placed, digits_lt, lead-lt, lead-ge, twice_hid, field_top, zero-placed, one_placed, split, reaches, stays, carries}
+use Rattle.rounding.proofs.Patterns.{pattern_lt}
+use Rattle.rounding.proofs.Cases.{round_bits_lt}
 use Rattle.rounding.proofs.Half.{half-same, half-none, half-one, half-all, half-by, bounds, moved-is}
 
 -- ---- values
@@ -307,7 +309,9 @@ round-bits f b B = go1 (ltb j (emax f - 1)) (ltb→lt j (emax f - 1)) (nltb→le
     go1 true g h = round-low f b B (g tt)
     go1 false g h = go2 (ltb j (emax f)) (ltb→lt j (emax f)) (nltb→le j (emax f)) (h tt)
 
-pub round-joined : (f : Format) (x r : Float) (b c : ℕ) → T (fits f x) → b ≡ lib.Ieee.to_bits f x → c ≡ round_bits f b → r ≡ of_bits f c → r ≡ float_round f x
-round-joined f x r b c h B C R =
-    let L : b < 2 * top f = subst (λ z. z < 2 * top f) (sym B) (lib.Ieee.Bits.to_bits-lt f x h) in
-    R ∙ ap (λ z. of_bits f z) C ∙ round-bits f b L ∙ ap (λ z. float_round f (of_bits f z)) B ∙ ap (λ z. float_round f z) (lib.Ieee.Bits.of_bits-to_bits f x h)
+-- as the code rounds: by the patterns b and c
+pub round_joined : (f : Format) (x r : Float) (b c : ℕ) → b ≡ lib.Ieee.to_bits f x → x ≡ of_bits f b → c ≡ round_bits f b → r ≡ of_bits f (c % (2 * top f)) → r ≡ float_round f x
+round_joined f x r b c is back C R =
+    let B : b < 2 * top f = pattern_lt f x b is back in
+    let M : c % (2 * top f) ≡ round_bits f b = ap (λ z. z % (2 * top f)) C ∙ mod-eq_of_lt (round_bits_lt f b B) in
+    R ∙ ap (of_bits f) M ∙ round-bits f b B ∙ ap (float_round f) (sym back)

@@ -1,10 +1,11 @@
 -- Signs by the pattern.
-use Rattle.std.proofs.Common.{◌≡◌, ℕ, zero, suc, ◌+◌, ◌-◌, ◌*◌, ◌%◌, ◌<◌, Bool, true, false, cond, not, T, eqb, leb, sym, refl, ap, ◌∙◌, subst, arith}
+use Rattle.std.proofs.Common.{◌≡◌, ℕ, zero, suc, ◌+◌, ◌-◌, ◌*◌, ◌%◌, ◌<◌, Bool, true, false, cond, not, T, eqb, leb, sym, refl, ap, ◌∙◌, subst, mod-eq_of_lt, arith}
 use lib.Ieee.{Float, Format, binary32, binary64, nan, inf, fin, prec, low, hid, ones, top, odd, of_fields, of_bits, to_bits, fits, is_nan}
-use lib.Ieee.Bits.{of_bits-to_bits, to_bits-lt}
+use lib.Ieee.Bits.{of_bits-to_bits}
 use Rattle.std.specs.Float.{is_sign_negative, float_with_sign}
 use Rattle.rounding.specs.Round.{exponent_field}
 use Rattle.rounding.proofs.Fields.{sign, sign_same, pattern-is}
+use Rattle.rounding.proofs.Patterns.{fits_back, pattern_lt}
 
 -- ---- fields with another sign
 odd-with : (d : ℕ) (s t : Bool) (q k l : ℕ) → float_with_sign t (odd d s q k l) ≡ odd d t q k l
@@ -75,10 +76,16 @@ copied f a b c A B e =
     placed binary32 a b c A B e = (sign_same binary32 b c (λ l. omega arith) (λ l. omega arith), omega arith, omega arith)
     placed binary64 a b c A B e = (sign_same binary64 b c (λ l. omega arith) (λ l. omega arith), omega arith, omega arith)
 
-pub copied_is : (f : Format) (x y r : Float) (a b : ℕ) → T (fits f x) → T (fits f y) → a ≡ to_bits f x → b ≡ to_bits f y → r ≡ of_bits f (a % top f + (b - b % top f)) → r ≡ float_with_sign (is_sign_negative y) x
-copied_is f x y r a b X Y A B R =
-    let small : (z : Float) (n : ℕ) → T (fits f z) → n ≡ to_bits f z → n < 2 * top f = λ z n h e. subst (λ k. k < 2 * top f) (sym e) (to_bits-lt f z h) in
-    R ∙ copied f a b (a % top f + (b - b % top f)) (small x a X A) (small y b Y B) refl
-    ∙ ap (λ z. float_with_sign z (of_bits f a)) (ap (sign f) B ∙ sym (sign-is f y Y))
-    ∙ ap (λ z. float_with_sign (is_sign_negative y) (of_bits f z)) A
-    ∙ ap (float_with_sign (is_sign_negative y)) (of_bits-to_bits f x X)
+copied_lt : (f : Format) (a b : ℕ) → b < 2 * top f → a % top f + (b - b % top f) < 2 * top f
+copied_lt binary32 a b h = omega arith
+copied_lt binary64 a b h = omega arith
+
+-- as the code copies it, where s and t are the sign's weight
+pub copied_is : (f : Format) (x y r : Float) (a b s t : ℕ) → s ≡ top f → t ≡ top f → a ≡ to_bits f x → x ≡ of_bits f a → b ≡ to_bits f y → y ≡ of_bits f b → r ≡ of_bits f ((a % s + (b - b % t)) % (2 * top f)) → r ≡ float_with_sign (is_sign_negative y) x
+copied_is f x y r a b s t S U A X B Y R =
+    let m : a < 2 * top f = pattern_lt f x a A X in
+    let n : b < 2 * top f = pattern_lt f y b B Y in
+    let e : a % s + (b - b % t) ≡ a % top f + (b - b % top f) = cc in
+    let c : (a % s + (b - b % t)) % (2 * top f) ≡ a % top f + (b - b % top f) = ap (λ z. z % (2 * top f)) e ∙ mod-eq_of_lt (copied_lt f a b n) in
+    let signs : sign f b ≡ is_sign_negative y = ap (sign f) B ∙ sym (sign-is f y (fits_back f y b Y)) in
+    R ∙ copied f a b ((a % s + (b - b % t)) % (2 * top f)) m n c ∙ ap (λ z. float_with_sign z (of_bits f a)) signs ∙ ap (float_with_sign (is_sign_negative y)) (sym X)

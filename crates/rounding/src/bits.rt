@@ -1,70 +1,63 @@
-ghost use Rattle.std.specs.Prelude.{◌≡◌, ◌%◌, ◌^◌, ◌<◌, pos, to_bits};
-ghost use Rattle.std.specs.Float.{is_sign_negative, float_with_sign, binary32, binary64};
+ghost use Rattle.std.specs.Prelude.{◌≡◌, ◌%◌, ◌^◌, ◌<◌, ◌-ℤ◌, pos, to_bits};
+ghost use Rattle.std.specs.Float.Ieee.{emax};
+ghost use Rattle.std.specs.Float.{is_sign_negative, float_with_sign, binary32};
+ghost use Rattle.rounding.specs.Round.{exponent_field};
 ghost use Rattle.rounding.specs.Bits.{field_of, exponent_of, mantissa_of, whole_bits, odd_bits, last_place, is_whole, is_odd};
 
-use std::num::{
-    f32_from_bits_with_nan, f32_to_bits_with_nan, f64_from_bits_with_nan, f64_to_bits_with_nan,
-};
-
-const SIGN_F32: u32 = 0x8000_0000;
-
-const SIGN: u64 = 0x8000_0000_0000_0000;
+use crate::floats::BinaryFloat;
+use std::num::f32_to_bits_with_nan;
 
 const UNIT_EXPONENT: u32 = 127 + 23;
 
 // Whether the sign is set. The NaN has none.
-pub fn is_sign_negative(x: f32) -> bool
-    ensures { result ≡ is_sign_negative x }
+pub fn is_sign_negative<F: BinaryFloat>(x: F) -> bool
+    ensures { result ≡ is_sign_negative (F.float x) }
 {
-    f32_to_bits_with_nan(x) >= SIGN_F32
+    x.bits() >= F::SIGN
 }
 
 // Copies the sign from `y` to `x`.
-pub fn copysignfk(x: f32, y: f32) -> f32
-    ensures { result ≡ float_with_sign (is_sign_negative y) x }
+pub fn copysign<F: BinaryFloat>(x: F, y: F) -> F
+    ensures { F.float result ≡ float_with_sign (is_sign_negative (F.float y)) (F.float x) }
 {
-    let i = f32_to_bits_with_nan(x);
-    let j = f32_to_bits_with_nan(y);
-    f32_from_bits_with_nan(i % SIGN_F32 + (j - j % SIGN_F32))
+    let i = x.bits();
+    let j = y.bits();
+    F::of_bits(i % F::SIGN + (j - j % F::SIGN))
 }
 
-// Copies the sign from `y` to `x`.
-pub fn copysignk(x: f64, y: f64) -> f64
-    ensures { result ≡ float_with_sign (is_sign_negative y) x }
+// The exponent's field of a pattern.
+fn exponent_field<F: BinaryFloat>(bits: u64) -> u64
+    ensures { result ≡ exponent_field F.format bits }
 {
-    let i = f64_to_bits_with_nan(x);
-    let j = f64_to_bits_with_nan(y);
-    f64_from_bits_with_nan(i % SIGN + (j - j % SIGN))
+    bits % F::SIGN / F::LEAD
 }
 
-// The exponent, by its field.
-pub fn get_exponent_f32(x: f32) -> i32
-    ensures { result ≡ exponent_of binary32 x }
+// The exponent of a pattern, by its field.
+pub fn exponent_of_bits<F: BinaryFloat>(bits: u64) -> i64
+    ensures { result ≡ pos (exponent_field F.format bits) -ℤ pos (emax F.format) }
 {
-    let bits = f32_to_bits_with_nan(x);
-    (bits % SIGN_F32 >> 23) as i32 - 127
+    exponent_field::<F>(bits) as i64 - F::BIAS as i64
 }
 
 // The exponent's field.
-pub fn biased_exponent_f64(x: f64) -> i64
-    ensures { result ≡ pos (field_of binary64 x) }
+pub fn biased_exponent<F: BinaryFloat>(x: F) -> i64
+    ensures { result ≡ pos (field_of F.format (F.float x)) }
 {
-    let bits = f64_to_bits_with_nan(x);
-    (bits % SIGN >> 52) as i64
+    exponent_field::<F>(x.bits()) as i64
 }
 
 // The exponent, by its field.
-pub fn get_exponent_f64(x: f64) -> i64
-    ensures { result ≡ exponent_of binary64 x }
+pub fn get_exponent<F: BinaryFloat>(x: F) -> i64
+    ensures { result ≡ exponent_of F.format (F.float x) }
 {
-    biased_exponent_f64(x) - 1023
+    exponent_of_bits::<F>(x.bits())
 }
 
 // The digits below the leading one.
-pub fn mantissa_f64(x: f64) -> u64
-    ensures { result ≡ mantissa_of binary64 x }
+pub fn mantissa<F: BinaryFloat>(x: F) -> u64
+    ensures { result ≡ mantissa_of F.format (F.float x) }
 {
-    f64_to_bits_with_nan(x) % (1 << 52)
+    x.bits() % F::LEAD
 }
 
 // The exponent's field and the zeros that end the significand.
@@ -72,7 +65,7 @@ fn last_place(x: f32) -> u32
     ensures { result ≡ last_place x }
 {
     let x_u = f32_to_bits_with_nan(x);
-    let x_e = x_u % SIGN_F32 >> 23;
+    let x_e = x_u % 0x8000_0000 >> 23;
     let lsb = ((1 << 23) + x_u % (1 << 23)).trailing_zeros();
     x_e + lsb
 }

@@ -4,9 +4,7 @@ ghost use Rattle.std.specs.Float.{round_to_format, binary32, binary64};
 ghost use Rattle.rounding.specs.Round.{exponent_field};
 ghost use Rattle.rounding.specs.Narrowing.{narrow_bits};
 
-use std::num::{
-    f32_from_bits_with_nan, f32_to_bits_with_nan, f64_to_bits_with_nan, nearest_f64_to_f32_with_nan,
-};
+use std::num::{f32_from_bits_with_nan, f32_to_bits_with_nan, nearest_f64_to_f32_with_nan};
 
 // An f64 has 29 digits more than an f32.
 const UNIT: u64 = 1 << 29;
@@ -43,25 +41,11 @@ fn narrow_bits(i: u64) -> u32
     }
 }
 
-// The f32 nearest to x, ties to even; a NaN gives the NaN.
-pub fn narrow(x: f64) -> f32
-    ensures { result ≡ round_to_format binary32 x }
-{
-    let i = f64_to_bits_with_nan(x);
-    let field = i % 0x8000_0000_0000_0000 >> 52;
-    // From 2^-126 on and below 2^128.
-    if field >= 897 && field <= 1150 {
-        f32_from_bits_with_nan(narrow_bits(i))
-    } else {
-        nearest_f64_to_f32_with_nan(x)
-    }
-}
-
 // The pattern of the f32 nearest to x, ties to even; that of a NaN is 7fc00000.
 pub fn narrow_word(x: f64) -> u32
     ensures { result ≡ to_bits binary32 (round_to_format binary32 x) }
 {
-    if x != x {
+    if x.is_nan() {
         return 0x7fc0_0000;
     }
     let i = x.to_bits();
@@ -71,5 +55,16 @@ pub fn narrow_word(x: f64) -> u32
         narrow_bits(i)
     } else {
         f32_to_bits_with_nan(nearest_f64_to_f32_with_nan(x))
+    }
+}
+
+// The f32 nearest to x, ties to even; a NaN gives the NaN.
+pub fn narrow(x: f64) -> f32
+    ensures { result ≡ round_to_format binary32 x }
+{
+    if x.is_nan() {
+        f32::NAN
+    } else {
+        f32::from_bits(narrow_word(x))
     }
 }

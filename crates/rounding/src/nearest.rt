@@ -1,63 +1,37 @@
-ghost use Rattle.std.specs.Prelude.{◌≡◌};
-ghost use Rattle.std.specs.Float.Ieee.{to_signed};
-ghost use Rattle.std.specs.Float.{float_round, binary32, binary64};
+ghost use Rattle.std.specs.Prelude.{◌≡◌, ◌<◌, ◌*◌};
+ghost use Rattle.std.specs.Float.Ieee.{to_signed, top};
+ghost use Rattle.std.specs.Float.{float_round, binary64};
 ghost use Rattle.rounding.specs.Round.{round_bits};
 
-use std::num::{
-    f32_from_bits_with_nan, f32_to_bits_with_nan, f64_from_bits_with_nan, f64_to_bits_with_nan,
-    saturating_f64_to_i64,
-};
+use crate::floats::BinaryFloat;
+use std::num::saturating_f64_to_i64;
 
-// The pattern of the whole number nearest to the f64 of the pattern i0, halves away from zero.
-fn round_bits(i0: u64) -> u64
-    ensures { result ≡ round_bits binary64 i0 }
+// The pattern of the whole number nearest to the float of the pattern, halves away from zero.
+#[tactic(auto, using(crate::proofs::Cases::case_mid, crate::proofs::Cases::mid_sum, crate::proofs::Cases::mid_product), unfolding(crate::specs::Round::round_bits))]
+fn round_bits<F: BinaryFloat>(bits: u64) -> u64
+    requires { bits < 2 * top F.format }
+    ensures { result ≡ round_bits F.format bits }
 {
-    let size = i0 % 0x8000_0000_0000_0000;
-    let sign = i0 - size;
-    let j0 = size >> 52;
-    if j0 < 0x3fe {
+    let size = bits % F::SIGN;
+    let sign = bits - size;
+    let exponent = size / F::LEAD;
+    if exponent < F::BIAS - 1 {
         sign
-    } else if j0 < 0x3ff {
-        sign + 0x3ff0_0000_0000_0000
-    } else if j0 < 0x433 {
-        let unit = 1u64 << (0x433 - j0);
-        (i0 + unit / 2) / unit * unit
+    } else if exponent < F::BIAS {
+        sign + F::BIAS * F::LEAD
+    } else if exponent < F::WHOLE {
+        let unit = 1u64 << (F::WHOLE - exponent);
+        (bits + unit / 2) / unit * unit
     } else {
-        i0
-    }
-}
-
-// The same for an f32.
-fn roundf_bits(i0: u32) -> u32
-    ensures { result ≡ round_bits binary32 i0 }
-{
-    let size = i0 % 0x8000_0000;
-    let sign = i0 - size;
-    let j0 = size >> 23;
-    if j0 < 0x7e {
-        sign
-    } else if j0 < 0x7f {
-        sign + 0x3f80_0000
-    } else if j0 < 0x96 {
-        let unit = 1u32 << (0x96 - j0);
-        (i0 + unit / 2) / unit * unit
-    } else {
-        i0
+        bits
     }
 }
 
 // The nearest whole number, halves away from zero.
-pub fn round(x: f64) -> f64
-    ensures { result ≡ float_round binary64 x }
+pub fn round<F: BinaryFloat>(x: F) -> F
+    ensures { F.float result ≡ float_round F.format (F.float x) }
 {
-    f64_from_bits_with_nan(round_bits(f64_to_bits_with_nan(x)))
-}
-
-// The nearest whole number, halves away from zero.
-pub fn roundf(x: f32) -> f32
-    ensures { result ≡ float_round binary32 x }
-{
-    f32_from_bits_with_nan(roundf_bits(f32_to_bits_with_nan(x)))
+    F::of_bits(round_bits::<F>(x.bits()))
 }
 
 // 1.5 * 2^52: from 2^52 to 2^53 an f64 has no digit after the point, and its pattern counts in ones.

@@ -1,9 +1,7 @@
 ghost use Rattle.std.specs.Prelude.{◌≡◌, length};
 ghost use Rattle.sines.specs.Reading.{digit_of, word_of, Named, Read, result_of};
 
-use functions::{
-    luhvend_cosf, luhvend_cospif, luhvend_sinf, luhvend_sinpif, luhvend_tanf, luhvend_tanpif,
-};
+use functions::{Cosf, Cospif, Sinf, Sinpif, Tanf, Tanpif, on_word};
 
 // The six functions.
 #[derive(Clone, Copy, Drop)]
@@ -18,6 +16,7 @@ pub enum Function {
 
 impl Function {
     // The function of that name.
+    // Kept by hand: TryFrom would name an error that says no more than None.
     pub fn named(name: &[u8]) -> Option<Function>
         ensures { Named name.now result }
     {
@@ -45,43 +44,33 @@ impl Request {
     pub fn read(line: &[u8]) -> Option<Request>
         ensures { Read line.now result }
     {
-        if line.len() < 9 {
-            return None;
-        }
-        let (name, rest) = line.split_at(line.len() - 9);
-        if rest[0] != b' ' {
-            return None;
-        }
+        let (name, rest) = line.split_at(line.len().checked_sub(9)?);
         let function = Function::named(name)?;
-        let word = word_of(&rest[1..])?;
+        let word = word_of(rest.strip_prefix(b" ")?)?;
         Some(Request { function, word })
     }
 
     // The function's word at the word.
+    // Kept by hand: the six are a closed set, and each arm calls its own type's function, with no table at run time.
     pub fn result(self) -> u32
         ensures { result ≡ result_of self }
     {
         match self.function {
-            Function::Sinf => luhvend_sinf(self.word),
-            Function::Cosf => luhvend_cosf(self.word),
-            Function::Tanf => luhvend_tanf(self.word),
-            Function::Sinpif => luhvend_sinpif(self.word),
-            Function::Cospif => luhvend_cospif(self.word),
-            Function::Tanpif => luhvend_tanpif(self.word),
+            Function::Sinf => on_word::<Sinf>(self.word),
+            Function::Cosf => on_word::<Cosf>(self.word),
+            Function::Tanf => on_word::<Tanf>(self.word),
+            Function::Sinpif => on_word::<Sinpif>(self.word),
+            Function::Cospif => on_word::<Cospif>(self.word),
+            Function::Tanpif => on_word::<Tanpif>(self.word),
         }
     }
 }
 
 // The value of a hex digit, in either case.
-fn digit(b: u8) -> Option<u8>
+fn digit(b: u8) -> Option<u32>
     ensures { result ≡ digit_of b }
 {
-    match b {
-        b'0'..=b'9' => Some(b - b'0'),
-        b'a'..=b'f' => Some(b - b'a' + 10),
-        b'A'..=b'F' => Some(b - b'A' + 10),
-        _ => None,
-    }
+    char::from(b).to_digit(16)
 }
 
 // The word that eight hex digits write.
@@ -89,10 +78,6 @@ fn word_of(text: &[u8]) -> Option<u32>
     requires { length text.now ≡ 8 }
     ensures { result ≡ word_of 0 text.now }
 {
-    let mut word = 0;
-    for b in text {
-        let d = digit(*b)?;
-        word = word * 16 + u32::from(d);
-    }
-    Some(word)
+    text.iter()
+        .try_fold(0, |word: u32, b| Some(word << 4 | digit(*b)?))
 }

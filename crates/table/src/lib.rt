@@ -8,7 +8,7 @@ ghost use Rattle.circle.specs.Circle.{exact_sine, exact_cosine};
 ghost use Rattle.table.specs.Sines.{table_sine, table_cosine, sin_of_y, cosm1_of_y, sum_of, sine_of, cosine_of};
 ghost use Rattle.table.specs.Against.{TableSines, TableCosines, TableTangents, SineAgainst, CosineAgainst, TangentAgainst, TangentNearer};
 
-use forms::{Form, f_polyeval3, f_polyeval4};
+use forms::{Form, f_polyeval_made};
 
 pub mod tangent;
 
@@ -81,15 +81,17 @@ const SIN_K_PI_OVER32: [u64; 64] = [
 ];
 
 // The table's sine of k steps, whole turns of 64 aside.
+// Kept beside `table_tangent`: one function over either table would have to ask that the entry is no NaN, and these two
+// would still stand to say what an entry of each is worth.
 fn table_sine(k: u8) -> f64
     ensures is { result ≡ table_sine (k % 64) }
     ensures near { Good result (exact_sine (whole (k % 64))) (tiny 52) }
 {
-    f64::from_bits(SIN_K_PI_OVER32[(k % 64) as usize])
+    f64::from_bits(SIN_K_PI_OVER32[usize::from(k % 64)])
 }
 
 // The entries of the tables, and the polynomials of the rest y against the series.
-pub fn table_laws() -> u8
+pub fn table_laws()
     ensures sines { TableSines }
     ensures cosines { TableCosines }
     ensures tangents { TableTangents }
@@ -97,9 +99,7 @@ pub fn table_laws() -> u8
     ensures cosine { CosineAgainst }
     ensures tangent { TangentAgainst }
     ensures nearer { TangentNearer }
-{
-    0
-}
+{}
 
 // A step's sine and cosine, and those of the rest y, in one form.
 #[derive(Clone, Copy)]
@@ -109,6 +109,21 @@ pub struct SinCosf<T> {
     pub sin_y: T,
     pub cosm1_y: T,
 }
+
+// sin(y * pi / 32) / y by even powers of y up to 6.
+const SIN_Y: [f64; 4] = [
+    f64::from_bits(0x3fb921fb54442d18),
+    f64::from_bits(0xbf24abbce625abb1),
+    f64::from_bits(0x3e7466bc624f2776),
+    f64::from_bits(0xbdb32c3a619d4a7e),
+];
+
+// (cos(y * pi / 32) - 1) / y^2 by even powers of y up to 4.
+const COSM1_Y: [f64; 3] = [
+    f64::from_bits(0xbf73bd3cc9be430b),
+    f64::from_bits(0x3ed03c1f070c2e27),
+    f64::from_bits(0xbe155cc84bd94200),
+];
 
 // The table text: the parts of the sine and the cosine of k + y steps.
 pub fn sincosf_eval<T: Form>(y: f64, k: u8) -> SinCosf<T>
@@ -121,20 +136,9 @@ pub fn sincosf_eval<T: Form>(y: f64, k: u8) -> SinCosf<T>
     let y_sqr = T::multiply(v, v);
     let sin_k = T::make(table_sine(k));
     let cos_k = T::make(table_sine(k % 64 + 16));
-    let p = f_polyeval4(
-        y_sqr,
-        T::make(f64::from_bits(0x3fb921fb54442d18)),
-        T::make(f64::from_bits(0xbf24abbce625abb1)),
-        T::make(f64::from_bits(0x3e7466bc624f2776)),
-        T::make(f64::from_bits(0xbdb32c3a619d4a7e)),
-    );
+    let p = f_polyeval_made(y_sqr, &SIN_Y);
     let sin_y = T::multiply(v, p);
-    let q = f_polyeval3(
-        y_sqr,
-        T::make(f64::from_bits(0xbf73bd3cc9be430b)),
-        T::make(f64::from_bits(0x3ed03c1f070c2e27)),
-        T::make(f64::from_bits(0xbe155cc84bd94200)),
-    );
+    let q = f_polyeval_made(y_sqr, &COSM1_Y);
     let cosm1_y = T::multiply(y_sqr, q);
     SinCosf {
         sin_k,

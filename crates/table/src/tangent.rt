@@ -1,7 +1,7 @@
 ghost use Rattle.std.specs.Prelude.{◌≡◌, ◌%◌, get_or};
 ghost use Rattle.table.specs.Tangents.{table_tangent, tan_of_y, tangent_of, TangentNear};
 
-use forms::f_polyeval4;
+use forms::f_polyeval;
 use rounding::f_fmla;
 
 // The tangents of 0 to 63 steps, as bits.
@@ -77,7 +77,7 @@ fn table_tangent(k: u8) -> f64
     ensures is { result ≡ table_tangent (k % 64) }
     ensures near { TangentNear result (k % 64) }
 {
-    f64::from_bits(TAN_K_PI_OVER32[(k % 64) as usize])
+    f64::from_bits(TAN_K_PI_OVER32[usize::from(k % 64)])
 }
 
 // The tangents of a step and of the rest y.
@@ -87,6 +87,14 @@ pub struct TanfEval {
     pub tan_y: f64,
 }
 
+// tan(y * pi / 32) / y by even powers of y up to 6, on [0, 0.5].
+const TAN_Y: [f64; 4] = [
+    f64::from_bits(0x3fb921fb54442cef),
+    f64::from_bits(0x3f34abbce63a363e),
+    f64::from_bits(0x3eb466baced705e8),
+    f64::from_bits(0x3e346a33cde88184),
+];
+
 // The parts of the tangent of k + y steps.
 pub fn tanf_eval(y: f64, k: u8) -> TanfEval
     ensures tan_k { result.tan_k ≡ table_tangent (k % 64) }
@@ -94,14 +102,7 @@ pub fn tanf_eval(y: f64, k: u8) -> TanfEval
 {
     let y_sqr = y * y;
     let tan_k = table_tangent(k);
-    // tan(y * pi / 32) / y by even powers of y up to 6, on [0, 0.5].
-    let tan_y = f_polyeval4(
-        y_sqr,
-        f64::from_bits(0x3fb921fb54442cef),
-        f64::from_bits(0x3f34abbce63a363e),
-        f64::from_bits(0x3eb466baced705e8),
-        f64::from_bits(0x3e346a33cde88184),
-    ) * y;
+    let tan_y = f_polyeval(y_sqr, &TAN_Y) * y;
     TanfEval { tan_k, tan_y }
 }
 

@@ -8,12 +8,12 @@ use Rattle.functions.proofs.tanpif.tanpi_at.Goals.{in_default-via-in-0-2+else-y-
 
 pub returns-in-0 : goal.returns-in-0
 returns-in-0 c =
-    ap neg c.copysignfk.ensures ∙ sym (tangent_whole c.args.x c.args.y c.args.k c.if-y.true c.in-0.is ∙ ap (λ t. cond t (neg (zero_of c.args.x)) (zero_of c.args.x)) (le-leb 32 c.args.k c.if-is_odd.true))
+    ap neg c.copysign.ensures ∙ sym (tangent_whole c.args.x c.args.y c.args.k c.if-y.true c.in-0.is ∙ ap (λ t. cond t (neg (zero_of c.args.x)) (zero_of c.args.x)) (le-leb 32 c.args.k c.if-is_odd.true))
 
 pub returns-in-0-2 : goal.returns-in-0-2
 returns-in-0-2 c =
     let l : c.args.k < 32 = elim c.if-y.branch [ then-y+else-is_odd w ↦ omega (arith, w.if-is_odd.false) | else-y w ↦ absurd (both_ways (eq c.args.y (of_bits binary64 0)) w.if-y.false c.if-y-2.true) ] in
-    c.copysignfk-in-0-2.ensures ∙ sym (tangent_whole c.args.x c.args.y c.args.k c.if-y-2.true c.in-0.is ∙ ap (λ t. cond t (neg (zero_of c.args.x)) (zero_of c.args.x)) (lt-leb 32 c.args.k l))
+    c.copysign-in-0-2.ensures ∙ sym (tangent_whole c.args.x c.args.y c.args.k c.if-y-2.true c.in-0.is ∙ ap (λ t. cond t (neg (zero_of c.args.x)) (zero_of c.args.x)) (lt-leb 32 c.args.k l))
 
 pub returns-in-16 : goal.returns-in-16
 unfolding of_bits of_fields

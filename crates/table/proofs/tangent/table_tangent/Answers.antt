@@ -7,8 +7,8 @@ use Rattle.table.proofs.tangent.table_tangent.Goals as goal
 
 pub float_from_bits-result : goal.float_from_bits-result
 unfolding tan_table
-float_from_bits-result c = tan_no_nan (c.args.k % 64) (omega arith)
+float_from_bits-result c = rw c.from.ensures (tan_no_nan (c.args.k % 64) (omega arith))
 
 pub returns : goal.returns
 unfolding table_tangent
-returns c = record { is = refl; near = table_tangent_lem (c.args.k % 64) (omega arith) }
+returns c = rw c.from.ensures (record { is = refl; near = table_tangent_lem (c.args.k % 64) (omega arith) })

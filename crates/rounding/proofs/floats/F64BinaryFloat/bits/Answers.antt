@@ -1,0 +1,7 @@
+use Rattle.std.proofs.Common.{sym, ap, ◌∙◌, rules}
+use lib.Ieee.{binary64, of_bits}
+use lib.Ieee.Bits.{of_bits-to_bits}
+use Rattle.rounding.proofs.floats.F64BinaryFloat.bits.Goals as goal
+
+pub returns-clause-back : goal.returns-clause-back
+returns-clause-back c = sym (ap (of_bits binary64) c.f64_to_bits_with_nan.ensures ∙ of_bits-to_bits binary64 c.args.self (search rules))
