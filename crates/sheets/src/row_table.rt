@@ -72,8 +72,7 @@ impl Table {
 
     // How many rows stand.
     pub(crate) fn count(&self) -> usize
-        ensures count { result ≡ length self.now }
-        ensures fits { result ≤ 256 }
+        ensures { result ≡ length self.now }
     {
         self.rows.len()
     }
