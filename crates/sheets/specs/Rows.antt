@@ -29,6 +29,6 @@ along_of rows = fold (λ a r. a +ℤ pos r.speed *ℤ r.cosine) (pos 0) rows
 abbrev pub across_of : List Row → ℤ
 across_of rows = fold (λ a r. a +ℤ pos r.speed *ℤ r.sine) (pos 0) rows
 
--- the three
+-- the totals of the rows
 abbrev pub row_totals : List Row → Totals
 row_totals rows = record { speed = speed_of rows; along = along_of rows; across = across_of rows }
