@@ -1,6 +1,6 @@
 -- The fused product and sum, and quotients.
 use Rattle.std.proofs.Common.{zero, suc, ◌*◌, ◌<◌, Bool, true, false, T, zero-lt-suc, mul-pos, arith, ltb→lt, lt→ltb}
-use lib.Ieee.{Float, Format, nan, inf, fin, up, down, unlike, div}
+use lib.Ieee.{Float, Format, nan, inf, fin, up, down, unlike}
 use lib.Ieee.Fits.{up_pos, down_pos}
 use lib.Ieee.Scale.{finite}
 use Rattle.std.specs.Float.{float_mul_add}
@@ -48,9 +48,6 @@ inverse-is nan p = absurd p
 inverse-is (inf s) p = absurd p
 inverse-is (fin true m e) p = record { eq = omega arith }
 inverse-is (fin false m e) p = record { eq = omega arith }
-
-pub quotient-rounded : (f : Format) (x y : Float) → T (finite x) → (q : T (nonzero y)) → Rounded f (div f x y) (value_of x ⊗ inverse y q)
-quotient-rounded f x y p q = div-rounded f x y (value_of x ⊗ inverse y q) p q (≈-trans (⊗-assoc (value_of x) (inverse y q) (value_of y)) (≈-trans (⊗-cong (≈-refl (value_of x)) (inverse-is y q)) (⊗-one (value_of x))))
 
 -- ---- a divisor that is not zero
 pub not_zero : (y : Float) → T (finite y) → (value_of y ≈ whole 0 → ⊥) → T (nonzero y)

@@ -126,9 +126,6 @@ one-⊗ x = parts (omega arith) (omega arith) (omega arith)
 pub zero-⊗ : (x : Fraction) → whole 0 ⊗ x ≈ whole 0
 zero-⊗ x = record { eq = omega arith }
 
-pub neg-⊕ : (x y : Fraction) → neg (x ⊕ y) ≈ neg x ⊕ neg y
-neg-⊕ x y = ≈-refl _
-
 pub neg-⊗ : (x y : Fraction) → neg (x ⊗ y) ≈ neg x ⊗ y
 neg-⊗ x y = parts (omega arith) (omega arith) refl
 

@@ -228,10 +228,6 @@ div-rounded f (fin s m e) (fin t (suc n) d) v p q h =
     off : (n : ℕ) → eqb (suc n) 0 ≡ false
     off n = ap compare_is_eq (compare.suc-zero n)
 
-    -- by n * vp * ... : cancel the size of y
-    core : (vp vm vd x xd y yd : ℕ) → 0 < y → (vp * y) * xd + 0 ≡ (x * (vd * yd)) + (vm * y) * xd → x * yd * vd + vm * (y * xd) ≡ vp * (y * xd) + 0 * vd
-    core vp vm vd x xd y yd Y h = omega arith
-
     go : (s t : Bool) → v ⊗ value_of (fin t (suc n) d) ≈ value_of (fin s m e) → signed (unlike s t) (m * up e * down d) (suc n * up d * down e) K ≈ v
     go false false h = record { eq = omega (arith, h.eq) }
     go false true h = record { eq = omega (arith, h.eq) }

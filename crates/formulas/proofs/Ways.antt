@@ -1,5 +1,5 @@
 -- The ways through each definition, by the word.
-use Rattle.std.proofs.Common.{◌≡◌, ℕ, ◌%◌, ◌<◌, ◌≤◌, Bool, true, false, cond, ◌&&◌, ◌||◌, eqb, leb, sym, refl, ap, ◌∙◌, arith, le-ltb, lt-ltb, ne_eqb, le-leb}
+use Rattle.std.proofs.Common.{◌≡◌, ℕ, ◌%◌, ◌<◌, ◌≤◌, Bool, true, false, cond, ◌&&◌, ◌||◌, eqb, leb, refl, ap, ◌∙◌, arith, le-ltb, lt-ltb, ne_eqb, le-leb}
 use lib.Ieee.{Float, nan, inf, binary32, binary64, of_bits, mul, neg, eq}
 use Rattle.rounding.specs.Bits.{whole_bits, odd_bits}
 use Rattle.reducers.specs.Reduce.{reduce, reduce_pi, reduce_quarter}
@@ -148,12 +148,6 @@ unfolding tanpif
 tanpif-rest x h = rw (lt-leb infinite (size_bits x) (omega arith), lt-leb 0x4b800000 (size_bits x) h) refl
 
 -- ---- quarters
-pub sine-last : (k : ℕ) (y : Float) → k ≡ 3 → neg (Rattle.formulas.specs.HalfTurns.cospi_y y) ≡ sine_by k y
-sine-last k y e = sym (ap (λ z. sine_by z y) e)
-
-pub cosine-last : (k : ℕ) (y : Float) → k ≡ 3 → Rattle.formulas.specs.HalfTurns.sinpi_y y ≡ cosine_by k y
-cosine-last k y e = sym (ap (λ z. cosine_by z y) e)
-
 pub quarter-at : (f : ℕ → Float → Float) (x : Float) (r : Float × lib.IntN.ℤ) (j : ℕ) → r ≡ reduce_quarter x → j ≡ mod_turn r.1 → f (j % 4) r.0 ≡ by_quarter f (reduce_quarter x)
 quarter-at f x r j e h = ap (λ z. f (z % 4) r.0) h ∙ ap (by_quarter f) e
 

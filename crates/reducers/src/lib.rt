@@ -9,6 +9,7 @@ ghost use Rattle.reducers.specs.Reduce.{reduce as reduced};
 
 use rounding::{exponent_of_bits, f_fmla, round_counted};
 
+// The reducer of radians: the float, and the word of its size.
 #[derive(Clone, Copy)]
 pub struct ArgumentReducer {
     pub x: f64,
@@ -69,6 +70,7 @@ static THIRTYTWO_OVER_PI: [Part; 8] = [
     },
 ];
 
+// The i-th part.
 fn thirtytwo_over_pi(i: usize) -> f64
     requires { i < 8 }
     ensures { result ≡ part i }
@@ -146,6 +148,7 @@ impl ArgumentReducer {
         (y, high.wrapping_add(low))
     }
 
+    // k and y by the float's size.
     pub fn reduce(self) -> (f64, i64)
         ensures is { result ≡ reduced self.x self.x_abs }
         ensures right { (w : ℕ) → self.x ≡ from_bits binary32 w → self.x_abs ≡ w % 2147483648 → (field w ≢ 255) → Reduced w result.0 result.1 }

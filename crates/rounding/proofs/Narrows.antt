@@ -247,6 +247,7 @@ nearest-number f nan h = h
 nearest-number f (inf s) h = tt
 nearest-number f (fin s m e) h = round_number f s (m * up e) (down e)
 
+-- what is rounded to a format is one of it
 pub narrowed_fits : (f : Format) (x : Float) → T (fits f (round_to_format f x))
 unfolding round_to_format fits
 narrowed_fits f nan = tt

@@ -76,6 +76,7 @@ copied f a b c A B e =
     placed binary32 a b c A B e = (sign_same binary32 b c (λ l. omega arith) (λ l. omega arith), omega arith, omega arith)
     placed binary64 a b c A B e = (sign_same binary64 b c (λ l. omega arith) (λ l. omega arith), omega arith, omega arith)
 
+-- a copied sign makes a pattern
 copied_lt : (f : Format) (a b : ℕ) → b < 2 * top f → a % top f + (b - b % top f) < 2 * top f
 copied_lt binary32 a b h = omega arith
 copied_lt binary64 a b h = omega arith
