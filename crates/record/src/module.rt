@@ -63,6 +63,7 @@ impl Reader for Module {
 
     ghost meaning = { λ r w h. under-keeps r.mount r.edition w };
 
+    // An edition is one of two, so a match says it plainer than a closure or a trait object would.
     fn read(&self, word: u32) -> Result<(u8, f64), ReaderFault> {
         match self.edition {
             Edition::Radians => read_under(Radians {}, self.mount, word),
