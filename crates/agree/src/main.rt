@@ -2,15 +2,14 @@
 #![tactic(auto)]
 
 use agreement::pair::{Pair, compare};
-use record::fault::RecordFault;
-use record::report::report;
+use record::report::{LONGEST, outcome};
 use sheets::totals::Totals;
 use std::fs::File;
 use std::io::Read;
 use std::{env, io};
 
 // One byte more than a record may have: what is longer is refused whatever follows.
-const ENOUGH: u64 = 65_537;
+const ENOUGH: u64 = LONGEST as u64 + 1;
 
 const USAGE: &str = "usage: agree RECORD_A RECORD_B";
 
@@ -25,17 +24,11 @@ fn read_file(rt: &HostRuntime, path: &str) -> io::Result<Vec<u8>> {
     Ok(bytes)
 }
 
-// Why a record has no report, if it has none.
-fn fault_of(bytes: &[u8]) -> Option<RecordFault> {
-    let mut buffer = [0u8; 96];
-    report(bytes, &mut buffer).err()
-}
-
 // Whether the record is refused; if so, that is printed.
 fn is_refused(rt: &HostRuntime, name: &str, bytes: &[u8]) -> io::Result<bool> {
-    match fault_of(bytes) {
-        None => Ok(false),
-        Some(fault) => {
+    match outcome(bytes) {
+        Ok(_) => Ok(false),
+        Err(fault) => {
             let line = fault.page();
             print!(rt; "{name} {line}")?;
             Ok(true)

@@ -8,7 +8,7 @@ use record::item::Item;
 use sheets::book::Call;
 use std::alloc::{AllocError, Global};
 
-// In their order, up to the first field that says nothing.
+// In their order, up to the first field that is refused.
 pub fn calls_of(heap: Global, bytes: &[u8]) -> Result<Vec<Call>, AllocError>
     ensures { IfOk result (λ v. v.items ≡ calls_in (fields_of bytes.now)) }
 {

@@ -12,13 +12,14 @@ use sheets::book::Call;
 use sheets::totals::Totals;
 use std::alloc::{AllocError, Global};
 
-#[derive(Clone, Copy)]
+// The totals of two sheets.
+#[derive(Clone, Copy, Debug, PartialEq, Eq)]
 pub struct Pair {
     pub one: Totals,
     pub other: Totals,
 }
 
-// On sheets over any two readers.
+// On sheets over any two readers. Apart from `compare`, so that it is said of every two.
 fn totals_over<P: Reader + Drop, Q: Reader + Drop>(
     one: P,
     calls: &[Call],

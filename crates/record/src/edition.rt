@@ -5,21 +5,19 @@ ghost use Rattle.record.specs.Fields.{edition_number, edition_from, mount_from};
 use crate::fault::Cause;
 use readers::mount::Quarters;
 
+// The edition of a record, by its number.
 #[derive(Clone, Copy, Debug, PartialEq, Eq)]
 pub enum Edition {
-    Radians,
-    HalfTurns,
+    Radians = 5,
+    HalfTurns = 6,
 }
 
 impl Edition {
-    // Its number, 5 or 6. A method and not `u8::from`: the name says which number.
+    // Its number, 5 or 6.
     pub fn number(self) -> u8
         ensures { result ≡ edition_number self }
     {
-        match self {
-            Edition::Radians => 5,
-            Edition::HalfTurns => 6,
-        }
+        self as u8
     }
 }
 
@@ -53,16 +51,11 @@ impl TryFrom<(u8, u8)> for Mount {
 
     fn try_from(body: (u8, u8)) -> Result<Mount, Cause> {
         let quarters = Quarters::try_from(body.0)?;
-        match body.1 {
-            0 => Ok(Mount {
-                quarters,
-                mirrored: false,
-            }),
-            1 => Ok(Mount {
-                quarters,
-                mirrored: true,
-            }),
-            _ => Err(Cause::Value),
-        }
+        let mirrored = match body.1 {
+            0 => false,
+            1 => true,
+            _ => return Err(Cause::Value),
+        };
+        Ok(Mount { quarters, mirrored })
     }
 }

@@ -9,7 +9,8 @@ use itoa::Buffer;
 use readers::mount::MountFault;
 use sheets::fault::SheetFault;
 
-#[derive(Clone, Copy)]
+// A cause, without its place.
+#[derive(Clone, Copy, Debug, PartialEq, Eq)]
 pub enum Cause {
     // the buffer has fewer than 96 bytes
     Buffer,
@@ -28,7 +29,7 @@ pub enum Cause {
 }
 
 impl Cause {
-    // Its refusal number. A method and not `u8::from`: the name says which number.
+    // Its refusal number. By a match, since one variant carries another fault.
     pub fn number(self) -> u8
         ensures { result ≡ cause_number self }
     {
@@ -73,7 +74,7 @@ impl From<MountFault> for Cause {
 }
 
 // A cause, with the offset of the field's tag.
-#[derive(Clone, Copy)]
+#[derive(Clone, Copy, Debug, PartialEq, Eq)]
 pub struct RecordFault {
     pub cause: Cause,
     pub offset: usize,

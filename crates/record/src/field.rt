@@ -4,6 +4,7 @@ ghost use Rattle.record.specs.Fields.{cut};
 
 use crate::fault::Cause;
 
+// A field taken apart, with the bytes after it.
 #[derive(Clone, Copy)]
 pub struct Cut<'a> {
     pub tag: u8,

@@ -9,7 +9,7 @@ use crate::state::State;
 use std::marker::Model;
 
 // A field: the offset of its tag, and what it says or why it is refused.
-#[derive(Clone, Copy)]
+#[derive(Clone, Copy, Debug, PartialEq, Eq)]
 pub struct Field {
     pub at: usize,
     pub said: Result<Item, Cause>,

@@ -9,7 +9,8 @@ use crate::field::{high_first, take_field};
 use crate::state::{Kind, State, stand};
 use sheets::book::{Call, Entry};
 
-#[derive(Clone, Copy)]
+// What a field says.
+#[derive(Clone, Copy, Debug, PartialEq, Eq)]
 pub enum Item {
     Edition(Edition),
     Mount(Mount),
@@ -36,6 +37,7 @@ pub struct Taken<'a> {
     pub rest: &'a [u8],
 }
 
+// Sample, speed and word, each high byte first.
 fn entry_of(body: &[u8]) -> Entry
     requires { length body.now ≡ 8 }
     ensures { result ≡ entry_of body.now }
@@ -53,8 +55,8 @@ fn item_of(kind: Kind, body: &[u8]) -> Result<Item, Cause>
     ensures { result ≡ item_of kind body.now }
 {
     match kind {
-        Kind::Edition => Ok(Item::Edition(Edition::try_from(body[0])?)),
-        Kind::Mount => Ok(Item::Mount(Mount::try_from((body[0], body[1]))?)),
+        Kind::Edition => Edition::try_from(body[0]).map(Item::Edition),
+        Kind::Mount => Mount::try_from((body[0], body[1])).map(Item::Mount),
         Kind::Enter => Ok(Item::Put(Call::Enter(entry_of(body)))),
         Kind::Correct => Ok(Item::Put(Call::Correct(entry_of(body)))),
         Kind::Withdraw => Ok(Item::Put(Call::Withdraw(high_first(body[0], body[1])))),

@@ -26,7 +26,7 @@ fn read_under<R: Reader + Drop>(
 }
 
 // A reader by what the record says of itself.
-#[derive(Clone, Copy)]
+#[derive(Clone, Copy, Debug, PartialEq, Eq)]
 pub struct Module {
     pub edition: Edition,
     pub mount: Option<Mount>,

@@ -4,6 +4,7 @@ ghost use Rattle.record.specs.Page.{pasted, line};
 
 use arrayvec::ArrayString;
 
+// Room for any report and any refusal.
 pub type Page = ArrayString<96>;
 
 // A line: a word, a number's text, and the line's end.

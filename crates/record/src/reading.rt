@@ -9,15 +9,15 @@ use crate::tally::Tally;
 use sheets::sheet::Sheet;
 
 // What the record comes to, or where it is refused.
-pub fn read_record(record: &[u8]) -> Result<Tally, RecordFault>
-    ensures { result ≡ record_tally «record».now }
+pub fn read_record(bytes: &[u8]) -> Result<Tally, RecordFault>
+    ensures { result ≡ record_tally bytes.now }
 {
-    if record.is_empty() {
+    if bytes.is_empty() {
         return Err(Cause::Tag.at(0));
     }
-    let module = Module::of(record);
+    let module = Module::of(bytes);
     let mut sheet = Sheet::new(module);
-    put_record(&mut sheet, record)?;
+    put_record(&mut sheet, bytes)?;
     Ok(Tally {
         edition: module.edition,
         rows: sheet.count() as u16,

@@ -8,13 +8,14 @@ use crate::page::{Page, lay};
 use crate::reading::read_record;
 use crate::tally::Tally;
 
-// The fewest bytes of a buffer, and the most of a record.
-const ROOM: usize = 96;
+// The fewest bytes of a buffer.
+pub const ROOM: usize = 96;
 
-const LONGEST: usize = 65_536;
+// The most bytes of a record.
+pub const LONGEST: usize = 65_536;
 
-// What a record comes to, where there is room for its report.
-fn tally(bytes: &[u8]) -> Result<Tally, RecordFault>
+// What a record comes to: its numbers, or why it is refused. Has it at most 65,536 bytes, then its own questions.
+pub fn outcome(bytes: &[u8]) -> Result<Tally, RecordFault>
     ensures { result ≡ outcome_of 96 bytes.now }
 {
     if bytes.len() > LONGEST {
@@ -32,7 +33,7 @@ pub fn report(bytes: &[u8], buffer: &mut [u8]) -> Result<usize, RecordFault>
     if buffer.len() < ROOM {
         return Err(Cause::Buffer.at(0));
     }
-    let tally = tally(bytes)?;
+    let tally = outcome(bytes)?;
     Ok(lay(&tally.page(), buffer))
 }
 
@@ -50,7 +51,7 @@ pub fn refusal_line(fault: RecordFault, buffer: &mut [u8]) -> Result<usize, Reco
 pub fn printed(bytes: &[u8]) -> Page
     ensures { result.bytes ≡ text_of (outcome_of 96 bytes.now) }
 {
-    match tally(bytes) {
+    match outcome(bytes) {
         Ok(tally) => tally.page(),
         Err(fault) => fault.page(),
     }

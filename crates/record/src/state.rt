@@ -4,7 +4,8 @@ ghost use Rattle.record.specs.Fields.{next, length_of};
 
 use crate::fault::Cause;
 
-#[derive(Clone, Copy)]
+// What may come next.
+#[derive(Clone, Copy, Debug, PartialEq, Eq)]
 pub enum State {
     // the edition is awaited
     Edition,
@@ -14,7 +15,8 @@ pub enum State {
     Rows,
 }
 
-#[derive(Clone, Copy)]
+// A field by its tag.
+#[derive(Clone, Copy, Debug, PartialEq, Eq)]
 pub enum Kind {
     Edition,
     Mount,

@@ -7,7 +7,7 @@ use crate::page::{Page, push_line};
 use itoa::Buffer;
 use sheets::totals::Totals;
 
-#[derive(Clone, Copy)]
+#[derive(Clone, Copy, Debug, PartialEq, Eq)]
 pub struct Tally {
     pub edition: Edition,
     pub rows: u16,

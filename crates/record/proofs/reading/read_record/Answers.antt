@@ -24,12 +24,12 @@ followed m m0 bytes before after res q e b f h =
     subst (step m0) f (subst (λ x. step x res) e h)
 
 pub returns-then-is_empty : goal.returns-then-is_empty
-returns-then-is_empty c = ap Err c.at.ensures ∙ record-none c.args.«record».now (search rules)
+returns-then-is_empty c = ap Err c.at.ensures ∙ record-none c.args.bytes.now (search rules)
 
 pub returns-in_err-put_record : goal.returns-in_err-put_record
 returns-in_err-put_record c =
     let p = err_from_is_err_and c.from_residual.result c.from_residual.ensures.1 in
-    let bytes : List ℕ = c.args.«record».now in
+    let bytes : List ℕ = c.args.bytes.now in
     let there : 0 < length bytes = search rules in
     let m0 = c.of-module.result in
     let f = c.in_err-put_record.field-0.0 in
@@ -40,7 +40,7 @@ returns-in_err-put_record c =
 
 pub returns : goal.returns
 returns c =
-    let bytes : List ℕ = c.args.«record».now in
+    let bytes : List ℕ = c.args.bytes.now in
     let there : 0 < length bytes = search rules in
     let m0 = c.of-module.result in
     let F = c.put_record.ensures.made [] (none_yet _ _ c.new-sheet.ensures.rows) in
