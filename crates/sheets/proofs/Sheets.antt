@@ -17,7 +17,8 @@ use Rattle.sheets.specs.declared.reply.Reply.TheVariants.{Shown}
 use Rattle.shares.specs.declared.share.Shares.{Shares}
 use Rattle.sheets.specs.declared.book.Entry.{Entry}
 use Rattle.sheets.specs.declared.row.Row.{Row}
-use Rattle.sheets.specs.Rows.{samples, among, distinct}
+use Rattle.sheets.specs.Ledger.{Ledger, ledger}
+use Rattle.sheets.specs.Rows.{samples, among, distinct, row_totals}
 use Rattle.sheets.specs.Book.{may_enter, may_correct, may_withdraw}
 use Rattle.sheets.specs.Replies.{Answer}
 use Rattle.sheets.specs.Rewrite.{entry_row}
@@ -30,6 +31,10 @@ use Rattle.sheets.proofs.Orders.{eqb-sym, Found}
 -- any row
 abbrev pub none_row : Row
 none_row = record { sample = 0; speed = 0; word = 0; sine = pos 0; cosine = pos 0 }
+
+-- a table that shows a list's ledger keeps its own totals
+pub kept : (t : Ledger) (rows : List Row) → t ≡ ledger rows → t.totals ≡ row_totals t.rows
+kept t rows e = ap (λ (l : Ledger). l.totals) e ∙ sym (ap (λ (l : Ledger). row_totals l.rows) e)
 
 pub has-angle : (o : Steps) (a : Reading) (x : ℕ × Float) → Keeps o a → Ok x ≡ a → (u : Fraction) × (o ≡ Some u)
 has-angle None (Ok y) x k e = absurd k

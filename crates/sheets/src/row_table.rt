@@ -1,8 +1,9 @@
-// The rows of a sheet with their totals. A clause sees a table as the list of its rows.
+// The rows of a sheet with their totals. A clause sees a table as a ledger: its rows and the totals kept.
 ghost use Rattle.std.specs.Prelude.{◌≡◌, ◌==◌, ◌^◌, ◌<◌, ◌≤◌, [], ◌∷◌, ◌++◌, length, pos, ◌*ℤ◌, position, slice_index_or, slice_set, unsigned_abs};
 ghost use Rattle.std.specs.List.{swap_remove};
 ghost use Rattle.sheets.specs.declared.row.Row.{Row};
 ghost use Rattle.sheets.specs.Rewrite.{rewritten};
+ghost use Rattle.sheets.specs.Ledger.{ledger};
 ghost use Rattle.sheets.specs.Rows.{row_totals};
 
 use crate::book::Entry;
@@ -20,13 +21,13 @@ pub(crate) struct Table {
 }
 
 impl Model for Table {
-    ghost use Rattle.std.specs.Prelude.{◌≡◌, List};
-    ghost use Rattle.sheets.specs.declared.row.Row.{Row};
+    ghost use Rattle.std.specs.Prelude.{◌≡◌};
+    ghost use Rattle.sheets.specs.Ledger.{Ledger};
     ghost use Rattle.sheets.specs.Rows.{row_totals};
 
-    ghost Value = { List Row };
+    ghost Value = { Ledger };
 
-    ghost view = { λ t. t.rows.items };
+    ghost view = { λ t. record { rows = t.rows.items; totals = t.totals } };
 
     ghost invariant = { λ t. t.totals ≡ row_totals t.rows.items };
 }
@@ -62,7 +63,7 @@ fn totals_of(rows: &[Row]) -> Totals
 impl Table {
     // No rows.
     pub(crate) fn new() -> Table
-        ensures { result ≡ [] }
+        ensures { result ≡ ledger [] }
     {
         Table {
             rows: ArrayVec::new(),
@@ -72,37 +73,37 @@ impl Table {
 
     // How many rows stand.
     pub(crate) fn count(&self) -> usize
-        ensures { result ≡ length self.now }
+        ensures { result ≡ length self.now.rows }
     {
         self.rows.len()
     }
 
     // The totals kept.
     pub(crate) fn totals(&self) -> Totals
-        ensures { result ≡ row_totals self.now }
+        ensures { result ≡ self.now.totals }
     {
         self.totals
     }
 
     // The place of the sample's row.
     pub(crate) fn place(&self, sample: u16) -> Option<usize>
-        ensures { result ≡ position (λ row. row.sample == sample) self.now }
+        ensures { result ≡ position (λ row. row.sample == sample) self.now.rows }
     {
         self.rows.iter().position(|row| row.sample == sample)
     }
 
     // The row at a place.
     pub(crate) fn at(&self, i: usize) -> Row
-        requires { i < length self.now }
-        ensures { (d : Row) → result ≡ slice_index_or self.now i d }
+        requires { i < length self.now.rows }
+        ensures { (d : Row) → result ≡ slice_index_or self.now.rows i d }
     {
         self.rows[i]
     }
 
     // One more row, at the end.
     pub(crate) fn push(&mut self, row: Row)
-        requires { length self.old < 256 }
-        ensures { self.new ≡ self.old ++ row ∷ [] }
+        requires { length self.old.rows < 256 }
+        ensures { self.new ≡ ledger (self.old.rows ++ row ∷ []) }
     {
         self.rows.push(row);
         self.totals = totals_of(&self.rows);
@@ -110,8 +111,8 @@ impl Table {
 
     // The row at a place, all but its sample anew.
     pub(crate) fn rewrite(&mut self, i: usize, entry: Entry, shares: Shares)
-        requires { i < length self.old }
-        ensures { (d : Row) → self.new ≡ slice_set self.old i (rewritten (slice_index_or self.old i d) entry shares) }
+        requires { i < length self.old.rows }
+        ensures { (d : Row) → self.new ≡ ledger (slice_set self.old.rows i (rewritten (slice_index_or self.old.rows i d) entry shares)) }
     {
         self.rows[i].rewrite(entry, shares);
         self.totals = totals_of(&self.rows);
@@ -119,8 +120,8 @@ impl Table {
 
     // Takes the row at a place away; the last row comes to its place.
     pub(crate) fn remove(&mut self, i: usize)
-        requires { i < length self.old }
-        ensures { (d : Row) → self.new ≡ swap_remove self.old i d }
+        requires { i < length self.old.rows }
+        ensures { (d : Row) → self.new ≡ ledger (swap_remove self.old.rows i d) }
     {
         let _ = self.rows.swap_remove(i);
         self.totals = totals_of(&self.rows);
