@@ -1,10 +1,10 @@
 // The rows of a sheet with their totals. A clause sees a table as a ledger: its rows and the totals kept.
-ghost use Rattle.std.specs.Prelude.{◌≡◌, ◌==◌, ◌^◌, ◌<◌, ◌≤◌, [], ◌∷◌, ◌++◌, length, pos, ◌*ℤ◌, position, slice_index_or, slice_set, unsigned_abs};
-ghost use Rattle.std.specs.List.{swap_remove};
+ghost use Rattle.std.specs.Prelude.{◌≡◌, ◌==◌, ◌^◌, ◌<◌, ◌≤◌, [], ◌∷◌, ◌++◌, length, pos, ◌*ℤ◌, position, slice_get, slice_index_or, slice_set, false, MatchOption, unsigned_abs};
+ghost use Rattle.std.specs.List.{swap_remove, ContainsAt as Has};
 ghost use Rattle.sheets.specs.declared.row.Row.{Row};
 ghost use Rattle.sheets.specs.Rewrite.{rewritten};
 ghost use Rattle.sheets.specs.Ledger.{ledger};
-ghost use Rattle.sheets.specs.Rows.{row_totals};
+ghost use Rattle.sheets.specs.Rows.{row_totals, samples, among};
 
 use crate::book::Entry;
 use crate::row::Row;
@@ -13,10 +13,13 @@ use arrayvec::ArrayVec;
 use shares::share::Shares;
 use std::marker::Model;
 
-// At most 256 rows, and their totals.
+// How many rows fit.
+const MOST_ROWS: usize = 256;
+
+// At most MOST_ROWS rows, and their totals.
 #[derive(Drop)]
 pub(crate) struct Table {
-    rows: ArrayVec<Row, 256>,
+    rows: ArrayVec<Row, MOST_ROWS>,
     totals: Totals,
 }
 
@@ -37,7 +40,7 @@ fn part(speed: u16, share: i32) -> i64
     ensures value { result ≡ pos speed *ℤ share }
     ensures size { unsigned_abs result ≤ 2 ^ 47 }
 {
-    speed as i64 * share as i64
+    i64::from(speed) * i64::from(share)
 }
 
 // The totals of the rows, in one pass.
@@ -49,7 +52,7 @@ fn totals_of(rows: &[Row]) -> Totals
     let mut along: i64 = 0;
     let mut across: i64 = 0;
     for row in rows {
-        speed += row.speed as u32;
+        speed += u32::from(row.speed);
         along += part(row.speed, row.cosine);
         across += part(row.speed, row.sine);
     }
@@ -78,6 +81,13 @@ impl Table {
         self.rows.len()
     }
 
+    // Whether no more rows fit.
+    pub(crate) fn is_full(&self) -> bool
+        ensures { result ≡ (length self.now.rows == 256) }
+    {
+        self.rows.is_full()
+    }
+
     // The totals kept.
     pub(crate) fn totals(&self) -> Totals
         ensures { result ≡ self.now.totals }
@@ -92,12 +102,18 @@ impl Table {
         self.rows.iter().position(|row| row.sample == sample)
     }
 
-    // The row at a place.
-    pub(crate) fn at(&self, i: usize) -> Row
-        requires { i < length self.now.rows }
-        ensures { (d : Row) → result ≡ slice_index_or self.now.rows i d }
+    // The sample's row.
+    pub(crate) fn find(&self, sample: u16) -> Option<Row>
+        ensures { MatchOption result (among sample (samples self.now.rows) ≡ false) (λ row. (row.sample ≡ sample) × Has self.now.rows row) }
     {
-        self.rows[i]
+        self.rows.iter().find(|row| row.sample == sample).copied()
+    }
+
+    // The row at a place.
+    pub(crate) fn get(&self, i: usize) -> Option<Row>
+        ensures { result ≡ slice_get self.now.rows i }
+    {
+        self.rows.get(i).copied()
     }
 
     // One more row, at the end.

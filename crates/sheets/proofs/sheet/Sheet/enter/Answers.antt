@@ -2,6 +2,7 @@ use Rattle.std.proofs.Common.{◌≡◌, ℕ, ◌^◌, ◌<◌, ◌≤◌, false
 use lib.Ieee.{Float}
 use Rattle.exact.specs.Fraction.{Fraction}
 use Rattle.std.proofs.lemmas.List.{length-map}
+use Rattle.std.proofs.lemmas.Bool.{eqb-true, eqb-false}
 use Rattle.sheets.specs.declared.row.Row.{Row}
 use Rattle.sheets.specs.Rows.{samples, among}
 use Rattle.sheets.proofs.Sheets.{kept, has-angle, place-among, enter-taken, enter-full, enter-ok, distinct_more}
@@ -17,11 +18,11 @@ returns-then-is_some-clause-answer g c =
     let a = angled g s.reader c.args.entry.word (c.in_ok-k.k, c.in_ok-k.y) (omega arith) c.in_ok-k.ensures in
     enter-taken _ a.0 a.1 (samples s.table.rows) c.args.entry.sample (sym (c.if-is_some.ensures ∙ place-among c.args.entry.sample s.table.rows c.place.result c.place.ensures))
 
-pub returns-then-count-eq256-clause-answer : goal.returns-then-count-eq256-clause-answer
-returns-then-count-eq256-clause-answer g c =
+pub returns-then-is_full-clause-answer : goal.returns-then-is_full-clause-answer
+returns-then-is_full-clause-answer g c =
     let s = c.args.self.now in
     let a = angled g s.reader c.args.entry.word (c.in_ok-k.k, c.in_ok-k.y) (omega arith) c.in_ok-k.ensures in
-    let l : 256 ≤ length (samples s.table.rows) = omega (arith, length-map s.table.rows (λ (r : Row). r.sample)) in
+    let l : 256 ≤ length (samples s.table.rows) = omega (arith, eqb-true _ 256 (sym c.if-is_full.ensures), length-map s.table.rows (λ (r : Row). r.sample)) in
     enter-full _ a.0 a.1 (samples s.table.rows) c.args.entry.sample (sym (c.if-is_some.ensures ∙ place-among c.args.entry.sample s.table.rows c.place.result c.place.ensures)) l
 
 pub invariant_of-self-clause-differ : goal.invariant_of-self-clause-differ
@@ -34,7 +35,7 @@ pub returns-clause-answer : goal.returns-clause-answer
 returns-clause-answer g c =
     let s = c.args.self.now in
     let a = angled g s.reader c.args.entry.word (c.in_ok-k.k, c.in_ok-k.y) (omega arith) c.in_ok-k.ensures in
-    let l : length (samples s.table.rows) < 256 = omega (arith, length-map s.table.rows (λ (r : Row). r.sample)) in
+    let l : length (samples s.table.rows) < 256 = omega (arith, s.within, eqb-false _ 256 (sym c.if-is_full.ensures), length-map s.table.rows (λ (r : Row). r.sample)) in
     enter-ok _ a.0 a.1 (samples s.table.rows) c.args.entry.sample (sym (c.if-is_some.ensures ∙ place-among c.args.entry.sample s.table.rows c.place.result c.place.ensures)) l
 
 pub invariant_of-self-clause-kept : goal.invariant_of-self-clause-kept
