@@ -125,7 +125,7 @@ impl Table {
         self.totals = totals_of(&self.rows);
     }
 
-    // The row at a place, all but its sample anew.
+    // The row at a place, all but its sample anew. The place is one that `place` gave, here and below.
     pub(crate) fn rewrite(&mut self, i: usize, entry: Entry, shares: Shares)
         requires { i < length self.old.rows }
         ensures { (d : Row) → self.new ≡ ledger (slice_set self.old.rows i (rewritten (slice_index_or self.old.rows i d) entry shares)) }
