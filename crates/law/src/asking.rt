@@ -12,7 +12,7 @@ use sheets::sheet::Sheet;
 pub use sheets::sheet::runs::ask;
 
 // A call, and its answer.
-#[derive(Clone, Copy)]
+#[derive(Clone, Copy, Debug, PartialEq, Eq)]
 pub struct Asked {
     pub call: Call,
     pub answer: Result<Reply, SheetFault>,
