@@ -16,7 +16,7 @@ use Rattle.sheets.specs.declared.book.Entry.{Entry}
 use Rattle.sheets.specs.declared.row.Row.{Row}
 use Rattle.sheets.specs.declared.totals.Totals.{Totals}
 use Rattle.sheets.specs.Book.{standing_after}
-use Rattle.sheets.specs.Rows.{speed_of, along_of, across_of}
+use Rattle.sheets.specs.Rows.{speed_of, along_of, across_of, row_totals}
 use Rattle.sheets.specs.Runs.{filled, Grown}
 use Rattle.sheets.specs.Sheets.{InAnyOrder, read_sine, read_cosine}
 use Rattle.sheets.proofs.Sums.{length-order, all-order, sum_by_order, folded-order}
@@ -96,3 +96,7 @@ module _ (steps : ℕ → Steps) (answer : ℕ → Reading) (keeps : (w : ℕ) �
         along = total-near exact_cosine read_cosine cosine-kept (λ r. r.cosine) (λ e. refl) rows book totals.along g a;
         across = total-near exact_sine read_sine sine-kept (λ r. r.sine) (λ e. refl) rows book totals.across g c;
       }
+
+  -- totals that are kept of the rows
+  pub kept_holds : (calls : List Call) (rows : List Row) (totals : Totals) → Grown answer (standing_after steps calls) rows → totals ≡ row_totals rows → Holds steps answer calls rows totals
+  kept_holds calls rows totals g k = holds calls rows totals g (ap (λ (t : Totals). t.speed) k) (ap (λ (t : Totals). t.along) k) (ap (λ (t : Totals). t.across) k)

@@ -2,7 +2,7 @@
 ghost use Rattle.std.specs.Prelude.{◌≡◌, []};
 ghost use Rattle.sheets.specs.Sheets.{rows, totals_of};
 ghost use Rattle.law.specs.Law.{Holds};
-ghost use Rattle.law.specs.Replies.{Run, calls_of};
+ghost use Rattle.law.specs.Replies.{Run, calls_of, unasked};
 
 use readers::reader::Reader;
 use sheets::book::Call;
@@ -12,10 +12,22 @@ use sheets::sheet::Sheet;
 pub use sheets::sheet::runs::ask;
 
 // A call, and its answer.
-#[derive(Clone, Copy)]
+#[derive(Clone, Copy, Debug, PartialEq, Eq)]
 pub struct Asked {
     pub call: Call,
     pub answer: Result<Reply, SheetFault>,
+}
+
+// A call that is still to be asked: the answer beside it is written over.
+impl From<Call> for Asked {
+    ghost from_gives = { λ call asked. asked ≡ unasked call };
+
+    fn from(call: Call) -> Asked {
+        Asked {
+            call,
+            answer: Ok(Reply::Done),
+        }
+    }
 }
 
 // A new sheet over the reader after the list's calls in their order, each with its answer written beside it.

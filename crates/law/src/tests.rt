@@ -3,6 +3,7 @@ use crate::run_both;
 use readers::edition::{HalfTurns, Radians};
 use readers::mount::{Mirrored, Quarters, Turned};
 use sheets::book::{Call, Entry};
+use sheets::fault::SheetFault;
 use std::test::Fail;
 
 // A quarter turn by the mount, and by the word.
@@ -45,30 +46,9 @@ fn answers(rt: HostRuntime) -> Result<(), Fail> {
         speed: 100,
         word: 0,
     });
-    let answer = Ok(Reply::Done);
-    let mut list = [
-        Asked { call, answer },
-        Asked {
-            call: Call::Count,
-            answer,
-        },
-        Asked {
-            call: Call::Withdraw(7),
-            answer,
-        },
-        Asked {
-            call: Call::RowOf(7),
-            answer,
-        },
-    ];
+    let mut list = [call, Call::Count, Call::Withdraw(7), Call::RowOf(7)].map(Asked::from);
     let _ = run_asked(HalfTurns {}, &mut list);
-    let Ok(Reply::Counted(n)) = list[1].answer else {
-        return Err(Fail::new("no count"));
-    };
-    assert_eq!(rt; n, 1);
-    let Err(fault) = list[3].answer else {
-        return Err(Fail::new("still there"));
-    };
-    assert_eq!(rt; fault.number(), 9);
+    assert_eq!(rt; list[1].answer, Ok(Reply::Counted(1)));
+    assert_eq!(rt; list[3].answer.map_err(SheetFault::number), Err(9));
     Ok(())
 }

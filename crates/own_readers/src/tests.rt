@@ -2,8 +2,10 @@ use crate::{Blind, WholeSteps};
 use law::run_both;
 use readers::edition::HalfTurns;
 use readers::mount::{Mirrored, Quarters, Turned};
+use readers::reader::ReaderFault;
 use shares::needle::needle;
 use sheets::book::{Call, Entry};
+use sheets::fault::SheetFault;
 use sheets::sheet::Sheet;
 use std::test::Fail;
 
@@ -50,16 +52,13 @@ fn a_reader_without_angles(rt: HostRuntime) -> Result<(), Fail> {
         speed: 2,
         word: 3,
     };
-    match sheet.enter(entry) {
-        Ok(()) => return Err(Fail::new("no word has an angle")),
-        Err(e) => assert_eq!(rt; e.number(), 7),
-    }
+    assert_eq!(rt; sheet.enter(entry).map_err(SheetFault::number), Err(7));
     assert_eq!(rt; sheet.count(), 0);
-    match needle(&Blind {}, 0) {
-        Ok(_) => Err(Fail::new("no word has an angle")),
-        Err(e) => {
-            assert_eq!(rt; e.number(), 7);
-            Ok(())
-        },
-    }
+    assert_eq!(rt;
+        needle(&Blind {}, 0)
+            .map(|_| ())
+            .map_err(ReaderFault::number),
+        Err(7)
+    );
+    Ok(())
 }

@@ -9,7 +9,7 @@ use crate::reader::{Reader, ReaderFault};
 // Why a mount is not made.
 #[derive(Clone, Copy, Debug, PartialEq, Eq)]
 pub enum MountFault {
-    NoQuarter,
+    NoQuarter = 6,
 }
 
 impl MountFault {
@@ -17,9 +17,7 @@ impl MountFault {
     pub fn number(self) -> u8
         ensures { result ≡ 6 }
     {
-        match self {
-            MountFault::NoQuarter => 6,
-        }
+        self as u8
     }
 }
 
@@ -75,7 +73,7 @@ impl<R> Turned<R> {
 }
 
 impl<R: Drop> Turned<R> {
-    // Made for 0 to 3 quarters; refused otherwise.
+    // Made for 0 to 3 quarters; refused otherwise. It stays for callers who have a number.
     pub fn new(below: R, quarters: u8) -> Result<Turned<R>, MountFault>
         ensures { MatchResult result (λ m. (m.below ≡ below) × (quarter_count m.quarters ≡ quarters)) (λ _. 3 < quarters) }
     {

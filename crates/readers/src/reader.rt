@@ -5,7 +5,7 @@ ghost use Rattle.readers.specs.Meaning.{Steps, Reading, Keeps};
 // Why a word is not read.
 #[derive(Clone, Copy, Debug, PartialEq, Eq)]
 pub enum ReaderFault {
-    NoAngle,
+    NoAngle = 7,
 }
 
 impl ReaderFault {
@@ -13,9 +13,7 @@ impl ReaderFault {
     pub fn number(self) -> u8
         ensures { result ≡ 7 }
     {
-        match self {
-            ReaderFault::NoAngle => 7,
-        }
+        self as u8
     }
 }
 
@@ -26,7 +24,7 @@ pub trait Reader {
     // What reading a word answers, alike each time.
     ghost answer: { Self → ℕ → Reading };
 
-    // The pair (k, y). Kept a pair: what readers and reducers answer is taken apart at once by each caller.
+    // The pair (k, y). Kept a pair: that a reader answers with one is a rule of the project, and each caller takes it apart at once.
     fn read(&self, word: u32) -> Result<(u8, f64), ReaderFault>
         ensures { result ≡ answer self.now word };
 

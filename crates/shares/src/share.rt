@@ -7,7 +7,7 @@ use rounding::{narrow, round};
 use std::num::{f32_to_f64_with_nan, saturating_f64_to_i32};
 use table::sine_and_cosine;
 
-#[derive(Clone, Copy)]
+#[derive(Clone, Copy, Debug, PartialEq, Eq)]
 pub struct Shares {
     pub sine: i32,
     pub cosine: i32,

@@ -1,5 +1,4 @@
 pub mod Bools
-pub mod Ints
 pub mod Sheets
 pub mod Orders
 pub mod Sums

@@ -6,7 +6,6 @@ use Rattle.shares.specs.Share.{sine_share, cosine_share}
 use Rattle.sheets.specs.declared.row.Row.{Row}
 use Rattle.sheets.specs.declared.sheet.Sheet.{Sheet}
 use Rattle.sheets.specs.declared.totals.Totals.{Totals}
-use Rattle.sheets.specs.Rows.{row_totals}
 
 -- the same elements, each as often, in any order
 abbrev pub InAnyOrder : {X : Type 0} → List X → List X → Type 0
@@ -14,11 +13,11 @@ InAnyOrder xs ys = Permᴰ xs ys
 
 -- the rows of a sheet, in the order of their places
 abbrev pub rows : {R : Type 0} → Sheet R → List Row
-rows s = s.table
+rows s = s.table.rows
 
--- the totals that a sheet keeps: those of its rows
+-- the totals that a sheet keeps
 abbrev pub totals_of : {R : Type 0} → Sheet R → Totals
-totals_of s = row_totals s.table
+totals_of s = s.table.totals
 
 -- a call changes the rows alone, and where it is refused nothing
 pub record RowsAlone {R X E : Type 0} (result : Result X E) (old new : Sheet R) : Type 0 where

@@ -20,7 +20,7 @@ pub enum SheetFault {
 }
 
 impl SheetFault {
-    // Its refusal number.
+    // Its refusal number. A match, since a variant carries another fault: `as u8` has no number for such an enum.
     pub fn number(self) -> u8
         ensures { result ≡ sheet_number self }
     {

@@ -2,7 +2,7 @@ use crate::row::Row;
 use crate::totals::Totals;
 
 // What a call replies that is not refused.
-#[derive(Clone, Copy)]
+#[derive(Clone, Copy, Debug, PartialEq, Eq)]
 pub enum Reply {
     Done,
     Shown(Row),

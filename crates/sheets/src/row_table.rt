@@ -1,9 +1,10 @@
-// The rows of a sheet with their totals. A clause sees a table as the list of its rows.
-ghost use Rattle.std.specs.Prelude.{◌≡◌, ◌==◌, ◌^◌, ◌<◌, ◌≤◌, [], ◌∷◌, ◌++◌, length, pos, ◌*ℤ◌, position, slice_index_or, slice_set, unsigned_abs};
-ghost use Rattle.std.specs.List.{swap_remove};
+// The rows of a sheet with their totals. A clause sees a table as a ledger: its rows and the totals kept.
+ghost use Rattle.std.specs.Prelude.{◌≡◌, ◌==◌, ◌^◌, ◌<◌, ◌≤◌, [], ◌∷◌, ◌++◌, length, pos, ◌*ℤ◌, position, slice_get, slice_index_or, slice_set, false, MatchOption, unsigned_abs};
+ghost use Rattle.std.specs.List.{swap_remove, ContainsAt as Has};
 ghost use Rattle.sheets.specs.declared.row.Row.{Row};
 ghost use Rattle.sheets.specs.Rewrite.{rewritten};
-ghost use Rattle.sheets.specs.Rows.{row_totals};
+ghost use Rattle.sheets.specs.Ledger.{ledger};
+ghost use Rattle.sheets.specs.Rows.{row_totals, samples, among};
 
 use crate::book::Entry;
 use crate::row::Row;
@@ -12,21 +13,24 @@ use arrayvec::ArrayVec;
 use shares::share::Shares;
 use std::marker::Model;
 
-// At most 256 rows, and their totals.
+// How many rows fit.
+const MOST_ROWS: usize = 256;
+
+// At most MOST_ROWS rows, and their totals.
 #[derive(Drop)]
 pub(crate) struct Table {
-    rows: ArrayVec<Row, 256>,
+    rows: ArrayVec<Row, MOST_ROWS>,
     totals: Totals,
 }
 
 impl Model for Table {
-    ghost use Rattle.std.specs.Prelude.{◌≡◌, List};
-    ghost use Rattle.sheets.specs.declared.row.Row.{Row};
+    ghost use Rattle.std.specs.Prelude.{◌≡◌};
+    ghost use Rattle.sheets.specs.Ledger.{Ledger};
     ghost use Rattle.sheets.specs.Rows.{row_totals};
 
-    ghost Value = { List Row };
+    ghost Value = { Ledger };
 
-    ghost view = { λ t. t.rows.items };
+    ghost view = { λ t. record { rows = t.rows.items; totals = t.totals } };
 
     ghost invariant = { λ t. t.totals ≡ row_totals t.rows.items };
 }
@@ -36,7 +40,7 @@ fn part(speed: u16, share: i32) -> i64
     ensures value { result ≡ pos speed *ℤ share }
     ensures size { unsigned_abs result ≤ 2 ^ 47 }
 {
-    speed as i64 * share as i64
+    i64::from(speed) * i64::from(share)
 }
 
 // The totals of the rows, in one pass.
@@ -48,7 +52,7 @@ fn totals_of(rows: &[Row]) -> Totals
     let mut along: i64 = 0;
     let mut across: i64 = 0;
     for row in rows {
-        speed += row.speed as u32;
+        speed += u32::from(row.speed);
         along += part(row.speed, row.cosine);
         across += part(row.speed, row.sine);
     }
@@ -62,7 +66,7 @@ fn totals_of(rows: &[Row]) -> Totals
 impl Table {
     // No rows.
     pub(crate) fn new() -> Table
-        ensures { result ≡ [] }
+        ensures { result ≡ ledger [] }
     {
         Table {
             rows: ArrayVec::new(),
@@ -72,46 +76,59 @@ impl Table {
 
     // How many rows stand.
     pub(crate) fn count(&self) -> usize
-        ensures { result ≡ length self.now }
+        ensures { result ≡ length self.now.rows }
     {
         self.rows.len()
     }
 
+    // Whether no more rows fit.
+    pub(crate) fn is_full(&self) -> bool
+        ensures { result ≡ (length self.now.rows == 256) }
+    {
+        self.rows.is_full()
+    }
+
     // The totals kept.
     pub(crate) fn totals(&self) -> Totals
-        ensures { result ≡ row_totals self.now }
+        ensures { result ≡ self.now.totals }
     {
         self.totals
     }
 
     // The place of the sample's row.
     pub(crate) fn place(&self, sample: u16) -> Option<usize>
-        ensures { result ≡ position (λ row. row.sample == sample) self.now }
+        ensures { result ≡ position (λ row. row.sample == sample) self.now.rows }
     {
         self.rows.iter().position(|row| row.sample == sample)
     }
 
-    // The row at a place.
-    pub(crate) fn at(&self, i: usize) -> Row
-        requires { i < length self.now }
-        ensures { (d : Row) → result ≡ slice_index_or self.now i d }
+    // The sample's row.
+    pub(crate) fn find(&self, sample: u16) -> Option<Row>
+        ensures { MatchOption result (among sample (samples self.now.rows) ≡ false) (λ row. (row.sample ≡ sample) × Has self.now.rows row) }
     {
-        self.rows[i]
+        self.rows.iter().find(|row| row.sample == sample).copied()
+    }
+
+    // The row at a place.
+    pub(crate) fn get(&self, i: usize) -> Option<Row>
+        ensures { result ≡ slice_get self.now.rows i }
+    {
+        self.rows.get(i).copied()
     }
 
     // One more row, at the end.
     pub(crate) fn push(&mut self, row: Row)
-        requires { length self.old < 256 }
-        ensures { self.new ≡ self.old ++ row ∷ [] }
+        requires { length self.old.rows < 256 }
+        ensures { self.new ≡ ledger (self.old.rows ++ row ∷ []) }
     {
         self.rows.push(row);
         self.totals = totals_of(&self.rows);
     }
 
-    // The row at a place, all but its sample anew.
+    // The row at a place, all but its sample anew. The place is one that `place` gave, here and below.
     pub(crate) fn rewrite(&mut self, i: usize, entry: Entry, shares: Shares)
-        requires { i < length self.old }
-        ensures { (d : Row) → self.new ≡ slice_set self.old i (rewritten (slice_index_or self.old i d) entry shares) }
+        requires { i < length self.old.rows }
+        ensures { (d : Row) → self.new ≡ ledger (slice_set self.old.rows i (rewritten (slice_index_or self.old.rows i d) entry shares)) }
     {
         self.rows[i].rewrite(entry, shares);
         self.totals = totals_of(&self.rows);
@@ -119,8 +136,8 @@ impl Table {
 
     // Takes the row at a place away; the last row comes to its place.
     pub(crate) fn remove(&mut self, i: usize)
-        requires { i < length self.old }
-        ensures { (d : Row) → self.new ≡ swap_remove self.old i d }
+        requires { i < length self.old.rows }
+        ensures { (d : Row) → self.new ≡ ledger (swap_remove self.old.rows i d) }
     {
         let _ = self.rows.swap_remove(i);
         self.totals = totals_of(&self.rows);

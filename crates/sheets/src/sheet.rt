@@ -1,5 +1,5 @@
 ghost use Rattle.std.specs.Prelude.{◌≡◌, ◌≤◌, true, length};
-ghost use Rattle.sheets.specs.Rows.{samples, distinct};
+ghost use Rattle.sheets.specs.Rows.{samples, distinct, row_totals};
 
 use crate::row_table::Table;
 use readers::reader::Reader;
@@ -12,6 +12,7 @@ pub mod runs;
 pub struct Sheet<R> {
     reader: R,
     table: Table,
-    ghost within: { length table ≤ 256 },
-    ghost differ: { distinct (samples table) ≡ true },
+    ghost within: { length table.rows ≤ 256 },
+    ghost differ: { distinct (samples table.rows) ≡ true },
+    ghost kept: { table.totals ≡ row_totals table.rows },
 }

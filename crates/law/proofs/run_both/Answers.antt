@@ -2,9 +2,9 @@ use Rattle.readers.specs.Meaning.{Steps}
 use Rattle.exact.specs.Value.{integer}
 use Rattle.sheets.specs.Sheets.{rows, totals_of}
 use Rattle.sheets.specs.Book.{standing_after}
-use Rattle.std.proofs.Common.{ℕ, refl}
+use Rattle.std.proofs.Common.{ℕ}
 use Rattle.formulas.proofs.Six.{six}
-use Rattle.law.proofs.Near.{holds}
+use Rattle.law.proofs.Near.{kept_holds}
 use Rattle.law.proofs.Apart.{book-distinct, along-apart, across-apart}
 use Rattle.law.proofs.run_both.Goals as goal
 
@@ -16,8 +16,8 @@ returns g c =
     let others = c.args.others.now in
     let one : ℕ → Steps = λ w. g.P.Reader.steps c.args.one w in
     let other : ℕ → Steps = λ w. g.Q.Reader.steps c.args.other w in
-    let h = holds one (g.P.Reader.answer c.args.one) (g.met.P.Reader.meaning c.args.one) calls (rows p) (totals_of p) c.run-one.ensures.grown refl refl refl in
-    let k = holds other (g.Q.Reader.answer c.args.other) (g.met.Q.Reader.meaning c.args.other) others (rows q) (totals_of q) c.run-other.ensures.grown refl refl refl in
+    let h = kept_holds one (g.P.Reader.answer c.args.one) (g.met.P.Reader.meaning c.args.one) calls (rows p) (totals_of p) c.run-one.ensures.grown p.kept in
+    let k = kept_holds other (g.Q.Reader.answer c.args.other) (g.met.Q.Reader.meaning c.args.other) others (rows q) (totals_of q) c.run-other.ensures.grown q.kept in
     let d = book-distinct (rows p) (standing_after one calls) h.order p.differ in
     let d' = book-distinct (rows q) (standing_after other others) k.order q.differ in
     record {

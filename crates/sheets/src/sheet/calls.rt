@@ -38,7 +38,7 @@ impl<R: Reader> Sheet<R> {
         if self.table.place(entry.sample).is_some() {
             return Err(SheetFault::Taken);
         }
-        if self.table.count() == 256 {
+        if self.table.is_full() {
             return Err(SheetFault::Full);
         }
         let shares = shares_of(k, y);
@@ -53,9 +53,7 @@ impl<R: Reader> Sheet<R> {
         ensures rest { RowsAlone result self.old self.new }
     {
         let (k, y) = self.reader.read(entry.word)?;
-        let Some(i) = self.table.place(entry.sample) else {
-            return Err(SheetFault::Absent);
-        };
+        let i = self.table.place(entry.sample).ok_or(SheetFault::Absent)?;
         let shares = shares_of(k, y);
         self.table.rewrite(i, entry, shares);
         Ok(())
@@ -67,9 +65,7 @@ impl<R: Reader> Sheet<R> {
         ensures rows { InAnyOrder (allowed result (without (rows self.old) sample) (rows self.old)) (rows self.new) }
         ensures rest { RowsAlone result self.old self.new }
     {
-        let Some(i) = self.table.place(sample) else {
-            return Err(SheetFault::Absent);
-        };
+        let i = self.table.place(sample).ok_or(SheetFault::Absent)?;
         self.table.remove(i);
         Ok(())
     }
@@ -78,21 +74,14 @@ impl<R: Reader> Sheet<R> {
     pub fn row_of(&self, sample: u16) -> Result<Row, SheetFault>
         ensures { MatchResult result (λ row. (row.sample ≡ sample) × Has (rows self.now) row) (λ e. (e ≡ Absent) × (among sample (samples (rows self.now)) ≡ false)) }
     {
-        let Some(i) = self.table.place(sample) else {
-            return Err(SheetFault::Absent);
-        };
-        Ok(self.table.at(i))
+        self.table.find(sample).ok_or(SheetFault::Absent)
     }
 
     // The row at the place.
     pub fn row_at(&self, place: usize) -> Result<Row, SheetFault>
         ensures { MatchResult result (λ row. (place < length (rows self.now)) × ((d : Row) → row ≡ slice_index_or (rows self.now) place d)) (λ e. (e ≡ NoPlace) × (length (rows self.now) ≤ place)) }
     {
-        if place < self.table.count() {
-            Ok(self.table.at(place))
-        } else {
-            Err(SheetFault::NoPlace)
-        }
+        self.table.get(place).ok_or(SheetFault::NoPlace)
     }
 
     // How many rows stand.

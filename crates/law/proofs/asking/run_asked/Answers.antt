@@ -6,7 +6,7 @@ use Rattle.law.specs.declared.asking.Asked.{Asked}
 use Rattle.sheets.specs.declared.reply.Reply.TheVariants.{Done}
 use Rattle.law.specs.Law.{Holds}
 use Rattle.law.specs.Replies.{calls_of}
-use Rattle.law.proofs.Near.{holds}
+use Rattle.law.proofs.Near.{kept_holds}
 use Rattle.law.proofs.Replies.{Sofar, begun, further, calls-kept}
 use Rattle.law.proofs.asking.run_asked.Goals as goal
 
@@ -42,4 +42,4 @@ returns-clause-holds g c =
     subst (λ r. Sofar (g.R.Reader.steps r) (g.R.Reader.answer r) list (rows s)) c.new-sheet.ensures.reader
     (subst (λ l. Sofar (g.R.Reader.steps c.new-sheet.result.reader) (g.R.Reader.answer c.new-sheet.result.reader) l (rows s)) all c.loop-asked.invariant.2) in
     subst (λ l. Holds (g.R.Reader.steps reader) (g.R.Reader.answer reader) l (rows s) (totals_of s)) c.loop-asked.invariant.1
-    (holds (g.R.Reader.steps reader) (g.R.Reader.answer reader) (g.met.R.Reader.meaning reader) (calls_of list) (rows s) (totals_of s) so.grown refl refl refl)
+    (kept_holds (g.R.Reader.steps reader) (g.R.Reader.answer reader) (g.met.R.Reader.meaning reader) (calls_of list) (rows s) (totals_of s) so.grown s.kept)
