@@ -9,15 +9,10 @@ ends : {A : Type 0} (a : A) (l : List A) (d : A) → take (length l) (a ∷ l) +
 ends a [] d = refl
 ends a (b ∷ l) d = ap (λ z. a ∷ z) (ends b l d)
 
--- each item made of itself
-map_same : {A : Type 0} (l : List A) → map (λ a. a) l ≡ l
-map_same [] = refl
-map_same (a ∷ l) = ap (λ z. a ∷ z) (map_same l)
-
 -- the coefficients are made of the list's items
 module _ {A B : Type 0} (mla : A → A → A → A) (none x : A) (made : B → A) where
   -- one coefficient more, below the sum s
-  abbrev onto : A → B → A
+  abbrev pub onto : A → B → A
   onto s b = mla x s (made b)
 
   -- the lowest coefficient comes last
@@ -38,7 +33,3 @@ module _ {A B : Type 0} (mla : A → A → A → A) (none x : A) (made : B → A
   pub split_made : (xs : List B) (h : B) → 1 ≤ length xs → h ≡ get_or xs (length xs - 1) h → fold onto (made h) (reverse (take (length xs - 1) xs)) ≡ horner mla none x (map made xs)
   split_made [] h n e = absurd (omega arith)
   split_made (a ∷ l) h n e = at a l h (length (a ∷ l) - 1) (omega arith) e
-
--- the same of the coefficients themselves
-pub split_fold : {A : Type 0} (mla : A → A → A → A) (none x : A) (xs : List A) (h : A) → 1 ≤ length xs → h ≡ get_or xs (length xs - 1) h → fold (mla x) h (reverse (take (length xs - 1) xs)) ≡ horner mla none x xs
-split_fold mla none x xs h n e = split_made mla none x (λ a. a) xs h n e ∙ ap (horner mla none x) (map_same xs)

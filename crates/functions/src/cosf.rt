@@ -9,8 +9,8 @@ ghost use Rattle.functions.specs.Laws.{cosf-fits, cosf-near};
 
 use crate::circular::{Circular, on_float};
 use crate::polynomial::even;
-use crate::steps::steps;
 use crate::word::{INFINITE, MINUS_TINY, NAN, SIGN, widened};
+use reducers::ArgumentReducer;
 use rounding::{f_fmla, narrow_word};
 use table::{cosine, sincosf_eval};
 
@@ -27,7 +27,7 @@ const COS_NEAR: [f64; 5] = [
 fn cos_by_table(x: f64, x_abs: u32) -> f64
     ensures { result ≡ cosine_at (reduced x x_abs) }
 {
-    let (y, k) = steps(x, x_abs);
+    let (y, k) = ArgumentReducer { x, x_abs }.steps();
     let rs = sincosf_eval::<f64>(y, k);
     cosine(rs, -rs.sin_k)
 }

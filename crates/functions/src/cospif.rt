@@ -6,8 +6,8 @@ ghost use Rattle.functions.specs.Laws.{cospif-fits, cospif-near};
 
 use crate::circular::{Circular, on_float};
 use crate::polynomial::even;
+use crate::quarter::by_quarter;
 use crate::sincosf_eval::{cospif_eval, sinpif_eval};
-use crate::steps::by_quarter;
 use crate::word::{INFINITE, MINUS_TINY, NAN, SIGN, widened};
 use rounding::{f_fmla, is_integerf, is_odd_integerf, narrow_word};
 

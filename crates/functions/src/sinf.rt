@@ -9,8 +9,8 @@ ghost use Rattle.functions.specs.Laws.{sinf-fits, sinf-near};
 
 use crate::circular::{Circular, on_float};
 use crate::polynomial::odd;
-use crate::steps::steps;
 use crate::word::{INFINITE, MINUS_TINY, NAN, SIGN, widened};
+use reducers::ArgumentReducer;
 use rounding::{f_fmla, narrow_word};
 use table::{sincosf_eval, sine};
 
@@ -27,7 +27,7 @@ const SIN_NEAR: [f64; 5] = [
 fn sin_by_table(x: f64, x_abs: u32) -> f64
     ensures { result ≡ sine_at (reduced x x_abs) }
 {
-    let (y, k) = steps(x, x_abs);
+    let (y, k) = ArgumentReducer { x, x_abs }.steps();
     sine(sincosf_eval::<f64>(y, k))
 }
 

@@ -6,8 +6,8 @@ ghost use Rattle.functions.specs.Laws.{sinpif-fits, sinpif-near};
 
 use crate::circular::{Circular, on_float};
 use crate::polynomial::odd;
+use crate::quarter::by_quarter;
 use crate::sincosf_eval::{cospif_eval, sinpif_eval};
-use crate::steps::by_quarter;
 use crate::word::{INFINITE, NAN, PI, SIGN, widened, zero_like};
 use rounding::{f_fmla, is_integerf, narrow_word};
 

@@ -8,8 +8,8 @@ ghost use Rattle.functions.specs.Laws.{tanf-fits, tanf-near};
 
 use crate::circular::{Circular, on_float};
 use crate::polynomial::odd;
-use crate::steps::steps;
 use crate::word::{INFINITE, MINUS_TINY, NAN, SIGN, widened};
+use reducers::ArgumentReducer;
 use rounding::{f_fmla, narrow_word};
 use table::tangent::{tanf_eval, tangent};
 
@@ -26,7 +26,7 @@ const TAN_NEAR: [f64; 5] = [
 fn tan_by_table(x: f64, x_abs: u32) -> f64
     ensures { result ≡ tangent_at (reduced x x_abs) }
 {
-    let (y, k) = steps(x, x_abs);
+    let (y, k) = ArgumentReducer { x, x_abs }.steps();
     tangent(tanf_eval(y, k))
 }
 

@@ -6,7 +6,6 @@ ghost use Rattle.functions.specs.Laws.{tanpif-fits, tanpif-near};
 use crate::circular::{Circular, on_float};
 use crate::word::{INFINITE, NAN, PI, SIGN, size_bits, widened, zero_like};
 use reducers::pi::ArgumentReducerPi;
-use reducers::step_of;
 use rounding::{copysign, f_fmla, narrow, narrow_word};
 use std::num::{f32_to_bits_with_nan, f32_to_f64_with_nan};
 use table::tangent::{tanf_eval, tangent};
@@ -72,8 +71,7 @@ impl Circular for Tanpif {
         if x_abs >= 0x4b80_0000 {
             return zero_like(word);
         }
-        let (y, k) = ArgumentReducerPi { x: widened(word) }.reduce();
-        let k = step_of(k);
+        let (y, k) = ArgumentReducerPi { x: widened(word) }.steps();
         // Near zero, and where y is zero, as it is at quarters.
         if x_abs < TWO_TERMS_BOUND || y == 0.0 {
             return f32_to_bits_with_nan(tanpi_at(f32::from_bits(word), y, k));

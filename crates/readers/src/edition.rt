@@ -6,8 +6,8 @@ ghost use Rattle.readers.specs.Editions.{radian_meaning, radian_answer, half_tur
 ghost use Rattle.readers.specs.EditionsLemmas.{radian-keeps, half-turn-keeps};
 
 use crate::reader::{Reader, ReaderFault};
+use reducers::ArgumentReducer;
 use reducers::pi::ArgumentReducerPi;
-use reducers::{ArgumentReducer, step_of};
 use std::num::{f32_from_bits_with_nan, f32_to_f64_with_nan};
 
 // The word's float as an f64.
@@ -43,8 +43,8 @@ impl Reader for Radians {
             x: widened(word),
             x_abs: word % 0x8000_0000,
         };
-        let (y, k) = reducer.reduce();
-        Ok((step_of(k), y))
+        let (y, k) = reducer.steps();
+        Ok((k, y))
     }
 }
 
@@ -68,7 +68,7 @@ impl Reader for HalfTurns {
         if word % 0x8000_0000 >= EVEN_BOUND {
             return Ok((0, 0.0));
         }
-        let (y, k) = ArgumentReducerPi { x: widened(word) }.reduce();
-        Ok((step_of(k), y))
+        let (y, k) = ArgumentReducerPi { x: widened(word) }.steps();
+        Ok((k, y))
     }
 }

@@ -159,6 +159,15 @@ impl ArgumentReducer {
             self.reduce_large(exponent_of_bits::<f32>(u64::from(self.x_abs)) as i32)
         }
     }
+
+    // y, and k within a turn.
+    pub fn steps(self) -> (f64, u8)
+        ensures rest { result.0 ≡ (reduced self.x self.x_abs).0 }
+        ensures step { result.1 ≡ mod_turn (reduced self.x self.x_abs).1 }
+    {
+        let (y, k) = self.reduce();
+        (y, step_of(k))
+    }
 }
 
 // k modulo 64: the step within a turn.

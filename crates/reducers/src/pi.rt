@@ -4,8 +4,9 @@ ghost use Rattle.exact.specs.Fraction.{whole};
 ghost use Rattle.exact.specs.Value.{value_of};
 ghost use Rattle.exact.specs.Multiple.{Smaller};
 ghost use Rattle.reducers.specs.Reduce.{reduce_pi, reduce_quarter};
-ghost use Rattle.reducers.specs.Exact.{PiReduced, QuarterReduced};
+ghost use Rattle.reducers.specs.Exact.{mod_turn, PiReduced, QuarterReduced};
 
+use crate::step_of;
 use rounding::{f_fmla, round_counted};
 
 // The reducer of half turns: x stands for x * pi radians.
@@ -23,6 +24,15 @@ impl ArgumentReducerPi {
         let (kd, k) = round_counted(self.x * 32.0);
         let y = f_fmla(self.x, 32.0, -kd);
         (y, k)
+    }
+
+    // y, and k within a turn.
+    pub fn steps(self) -> (f64, u8)
+        ensures rest { result.0 ≡ (reduce_pi self.x).0 }
+        ensures step { result.1 ≡ mod_turn (reduce_pi self.x).1 }
+    {
+        let (y, k) = self.reduce();
+        (y, step_of(k))
     }
 
     // k = round(x * 2) and y = x - k / 2.

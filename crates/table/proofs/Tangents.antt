@@ -1,11 +1,12 @@
 -- The tangents' entries, by computation.
-use mathlib.Core.Path.{◌≡◌}
-use mathlib.Core.Bool.{Bool, true, false, ◌&&◌, not, cond}
+use Rattle.std.proofs.Common.{◌≡◌, ◌∙◌, map}
+use Rattle.std.proofs.lemmas.List.{get_or-map}
+use mathlib.Core.Bool.{Bool, true, false, ◌&&◌, cond}
 use Prim.Native.Nat.{ℕ, ◌%◌, ◌^◌, ◌<◌}
 use lib.Dec.{T, eqb, eqb→eq}
 use lib.ListN.{get_or}
 use lib.Count.{count_trailing_zeros}
-use lib.Ieee.{Float, binary64, of_bits, of_fields, odd, nan_bits}
+use lib.Ieee.{Float, binary64, of_bits, of_fields, odd, nan}
 use lib.Ieee.Scale.{finite}
 use lib.Ieee.Fits.{and_l, and_r, eq→eqb}
 use Rattle.exact.specs.Fraction.{Fraction, ◌⊗◌, neg, whole, frac, tiny, Size, Within, leq, size_test, within_test}
@@ -17,16 +18,10 @@ use Rattle.table.specs.Tangents.{tan_table, table_tangent, TangentNear}
 use Rattle.table.proofs.Below.{all_below, below}
 use Rattle.table.proofs.Table.{table-sine, table-cosine}
 
-number : ℕ → Bool
-number k = not (nan_bits binary64 (get_or tan_table k 0))
-
-numbers : T (all_below number 64)
-unfolding number all_below tan_table nan_bits
-numbers = tt
-
-pub tan_no_nan : (k : ℕ) → k < 64 → T (not (nan_bits binary64 (get_or tan_table k 0)))
-unfolding number
-tan_no_nan k h = below number 64 numbers k h
+-- what the code reads from the tangents
+pub tangent-of-entry : (x : Float) (k : ℕ) → k < 64 → ((d : Float) → x ≡ get_or (map (of_bits binary64) tan_table) k d) → x ≡ table_tangent k
+unfolding tan_table table_tangent
+tangent-of-entry x k h e = e nan ∙ get_or-map (of_bits binary64) tan_table k 0 nan h
 
 -- at odd quarter turns, and elsewhere, against the table's own sine and cosine
 far : Fraction → Bool

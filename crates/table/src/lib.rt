@@ -1,9 +1,9 @@
 #![tactic(auto)]
 
-ghost use Rattle.std.specs.Prelude.{ℕ, ◌%◌, ◌≡◌};
+ghost use Rattle.std.specs.Prelude.{ℕ, ◌%◌, ◌≡◌, get_or, Float};
 ghost use Rattle.std.specs.Float.Ieee.{neg};
 ghost use Rattle.exact.specs.Fraction.{whole, frac, tiny, ◌⊕◌, ◌⊗◌};
-ghost use Rattle.exact.specs.Value.{value_of, Good, Held, Near};
+ghost use Rattle.exact.specs.Value.{value_of, Held, Near};
 ghost use Rattle.circle.specs.Circle.{exact_sine, exact_cosine};
 ghost use Rattle.table.specs.Sines.{table_sine, table_cosine, sin_of_y, cosm1_of_y, sum_of, sine_of, cosine_of};
 ghost use Rattle.table.specs.Against.{TableSines, TableCosines, TableTangents, SineAgainst, CosineAgainst, TangentAgainst, TangentNearer};
@@ -12,82 +12,79 @@ use forms::{Form, f_polyeval_made};
 
 pub mod tangent;
 
-// The sines of 0 to 63 steps, as bits.
-const SIN_K_PI_OVER32: [u64; 64] = [
-    0x0000000000000000,
-    0x3fb917a6bc29b42c,
-    0x3fc8f8b83c69a60b,
-    0x3fd294062ed59f06,
-    0x3fd87de2a6aea963,
-    0x3fde2b5d3806f63b,
-    0x3fe1c73b39ae68c8,
-    0x3fe44cf325091dd6,
-    0x3fe6a09e667f3bcd,
-    0x3fe8bc806b151741,
-    0x3fea9b66290ea1a3,
-    0x3fec38b2f180bdb1,
-    0x3fed906bcf328d46,
-    0x3fee9f4156c62dda,
-    0x3fef6297cff75cb0,
-    0x3fefd88da3d12526,
-    0x3ff0000000000000,
-    0x3fefd88da3d12526,
-    0x3fef6297cff75cb0,
-    0x3fee9f4156c62dda,
-    0x3fed906bcf328d46,
-    0x3fec38b2f180bdb1,
-    0x3fea9b66290ea1a3,
-    0x3fe8bc806b151741,
-    0x3fe6a09e667f3bcd,
-    0x3fe44cf325091dd6,
-    0x3fe1c73b39ae68c8,
-    0x3fde2b5d3806f63b,
-    0x3fd87de2a6aea963,
-    0x3fd294062ed59f06,
-    0x3fc8f8b83c69a60b,
-    0x3fb917a6bc29b42c,
-    0xb69f77598338bfdf,
-    0xbfb917a6bc29b42c,
-    0xbfc8f8b83c69a60b,
-    0xbfd294062ed59f06,
-    0xbfd87de2a6aea963,
-    0xbfde2b5d3806f63b,
-    0xbfe1c73b39ae68c8,
-    0xbfe44cf325091dd6,
-    0xbfe6a09e667f3bcd,
-    0xbfe8bc806b151741,
-    0xbfea9b66290ea1a3,
-    0xbfec38b2f180bdb1,
-    0xbfed906bcf328d46,
-    0xbfee9f4156c62dda,
-    0xbfef6297cff75cb0,
-    0xbfefd88da3d12526,
-    0xbff0000000000000,
-    0xbfefd88da3d12526,
-    0xbfef6297cff75cb0,
-    0xbfee9f4156c62dda,
-    0xbfed906bcf328d46,
-    0xbfec38b2f180bdb1,
-    0xbfea9b66290ea1a3,
-    0xbfe8bc806b151741,
-    0xbfe6a09e667f3bcd,
-    0xbfe44cf325091dd6,
-    0xbfe1c73b39ae68c8,
-    0xbfde2b5d3806f63b,
-    0xbfd87de2a6aea963,
-    0xbfd294062ed59f06,
-    0xbfc8f8b83c69a60b,
-    0xbfb917a6bc29b42c,
+// The sines of 0 to 63 steps.
+const SIN_K_PI_OVER32: [f64; 64] = [
+    f64::from_bits(0x0000000000000000),
+    f64::from_bits(0x3fb917a6bc29b42c),
+    f64::from_bits(0x3fc8f8b83c69a60b),
+    f64::from_bits(0x3fd294062ed59f06),
+    f64::from_bits(0x3fd87de2a6aea963),
+    f64::from_bits(0x3fde2b5d3806f63b),
+    f64::from_bits(0x3fe1c73b39ae68c8),
+    f64::from_bits(0x3fe44cf325091dd6),
+    f64::from_bits(0x3fe6a09e667f3bcd),
+    f64::from_bits(0x3fe8bc806b151741),
+    f64::from_bits(0x3fea9b66290ea1a3),
+    f64::from_bits(0x3fec38b2f180bdb1),
+    f64::from_bits(0x3fed906bcf328d46),
+    f64::from_bits(0x3fee9f4156c62dda),
+    f64::from_bits(0x3fef6297cff75cb0),
+    f64::from_bits(0x3fefd88da3d12526),
+    f64::from_bits(0x3ff0000000000000),
+    f64::from_bits(0x3fefd88da3d12526),
+    f64::from_bits(0x3fef6297cff75cb0),
+    f64::from_bits(0x3fee9f4156c62dda),
+    f64::from_bits(0x3fed906bcf328d46),
+    f64::from_bits(0x3fec38b2f180bdb1),
+    f64::from_bits(0x3fea9b66290ea1a3),
+    f64::from_bits(0x3fe8bc806b151741),
+    f64::from_bits(0x3fe6a09e667f3bcd),
+    f64::from_bits(0x3fe44cf325091dd6),
+    f64::from_bits(0x3fe1c73b39ae68c8),
+    f64::from_bits(0x3fde2b5d3806f63b),
+    f64::from_bits(0x3fd87de2a6aea963),
+    f64::from_bits(0x3fd294062ed59f06),
+    f64::from_bits(0x3fc8f8b83c69a60b),
+    f64::from_bits(0x3fb917a6bc29b42c),
+    f64::from_bits(0xb69f77598338bfdf),
+    f64::from_bits(0xbfb917a6bc29b42c),
+    f64::from_bits(0xbfc8f8b83c69a60b),
+    f64::from_bits(0xbfd294062ed59f06),
+    f64::from_bits(0xbfd87de2a6aea963),
+    f64::from_bits(0xbfde2b5d3806f63b),
+    f64::from_bits(0xbfe1c73b39ae68c8),
+    f64::from_bits(0xbfe44cf325091dd6),
+    f64::from_bits(0xbfe6a09e667f3bcd),
+    f64::from_bits(0xbfe8bc806b151741),
+    f64::from_bits(0xbfea9b66290ea1a3),
+    f64::from_bits(0xbfec38b2f180bdb1),
+    f64::from_bits(0xbfed906bcf328d46),
+    f64::from_bits(0xbfee9f4156c62dda),
+    f64::from_bits(0xbfef6297cff75cb0),
+    f64::from_bits(0xbfefd88da3d12526),
+    f64::from_bits(0xbff0000000000000),
+    f64::from_bits(0xbfefd88da3d12526),
+    f64::from_bits(0xbfef6297cff75cb0),
+    f64::from_bits(0xbfee9f4156c62dda),
+    f64::from_bits(0xbfed906bcf328d46),
+    f64::from_bits(0xbfec38b2f180bdb1),
+    f64::from_bits(0xbfea9b66290ea1a3),
+    f64::from_bits(0xbfe8bc806b151741),
+    f64::from_bits(0xbfe6a09e667f3bcd),
+    f64::from_bits(0xbfe44cf325091dd6),
+    f64::from_bits(0xbfe1c73b39ae68c8),
+    f64::from_bits(0xbfde2b5d3806f63b),
+    f64::from_bits(0xbfd87de2a6aea963),
+    f64::from_bits(0xbfd294062ed59f06),
+    f64::from_bits(0xbfc8f8b83c69a60b),
+    f64::from_bits(0xbfb917a6bc29b42c),
 ];
 
-// The table's sine of k steps, whole turns of 64 aside.
-// Kept beside `table_tangent`: one function over either table would have to ask that the entry is no NaN, and these two
-// would still stand to say what an entry of each is worth.
-fn table_sine(k: u8) -> f64
-    ensures is { result ≡ table_sine (k % 64) }
-    ensures near { Good result (exact_sine (whole (k % 64))) (tiny 52) }
+// The entry of a table at k steps, whole turns of 64 aside.
+fn entry(table: &[f64; 64], k: u8) -> f64
+    ensures { (d : Float) → result ≡ get_or table.now (k % 64) d }
 {
-    f64::from_bits(SIN_K_PI_OVER32[usize::from(k % 64)])
+    table[usize::from(k % 64)]
 }
 
 // The entries of the tables, and the polynomials of the rest y against the series.
@@ -134,8 +131,8 @@ pub fn sincosf_eval<T: Form>(y: f64, k: u8) -> SinCosf<T>
 {
     let v = T::make(y);
     let y_sqr = T::multiply(v, v);
-    let sin_k = T::make(table_sine(k));
-    let cos_k = T::make(table_sine(k % 64 + 16));
+    let sin_k = T::make(entry(&SIN_K_PI_OVER32, k));
+    let cos_k = T::make(entry(&SIN_K_PI_OVER32, k % 64 + 16));
     let p = f_polyeval_made(y_sqr, &SIN_Y);
     let sin_y = T::multiply(v, p);
     let q = f_polyeval_made(y_sqr, &COSM1_Y);
@@ -178,6 +175,6 @@ pub fn sine_and_cosine<T: Form>(y: f64, k: u8) -> (T, T)
     ensures cosine_near { Held y (frac 3 4) → Near (T.Form.mean result.1) (exact_cosine (whole (k % 64) ⊕ value_of y)) (whole 11 ⊗ tiny T.Form.h ⊕ tiny 44) }
 {
     let p = sincosf_eval(y, k);
-    let minus_sin_k = T::make(-table_sine(k));
+    let minus_sin_k = T::make(-entry(&SIN_K_PI_OVER32, k));
     (sine(p), cosine(p, minus_sin_k))
 }

@@ -1,5 +1,9 @@
-use mathlib.Core.Path.{refl}
+use native.Mathlib.Omega.{arith}
+use Rattle.std.proofs.Common.{◌%◌}
+use Rattle.table.specs.Tangents.{tan_table}
+use Rattle.table.proofs.Tangents.{tangent-of-entry}
 use Rattle.table.proofs.tangent.tanf_eval.Goals as goal
 
-pub returns : goal.returns
-returns c = rw (c.f_polyeval.ensures.is, c.table_tangent-tan_k.ensures.is) (record { tan_k = refl; tan_y = refl })
+pub returns-clause-tan_k : goal.returns-clause-tan_k
+unfolding tan_table
+returns-clause-tan_k c = tangent-of-entry c.entry-tan_k.result (c.args.k % 64) (omega arith) c.entry-tan_k.ensures
