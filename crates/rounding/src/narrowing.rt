@@ -9,8 +9,8 @@ use std::num::{f32_from_bits_with_nan, f32_to_bits_with_nan, nearest_f64_to_f32_
 // An f64 has 29 digits more than an f32.
 const UNIT: u64 = 1 << 29;
 
-// The bias of an f64 is larger by 896.
-const BIAS: u64 = 896 << 52;
+// The bias of an f64 is larger by 896, here at the place of the exponent.
+const BIAS_GAP: u64 = 896 << 52;
 
 // n units of 2^29, to the nearest whole number, ties to even.
 fn nearest_even(n: u64) -> u64
@@ -33,7 +33,7 @@ fn narrow_bits(i: u64) -> u32
     ensures { result ≡ narrow_bits i }
 {
     let size = i % 0x8000_0000_0000_0000;
-    let rest = nearest_even(size - BIAS);
+    let rest = nearest_even(size - BIAS_GAP);
     if i >= 0x8000_0000_0000_0000 {
         (0x8000_0000 + rest) as u32
     } else {
