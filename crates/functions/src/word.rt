@@ -34,7 +34,7 @@ pub(crate) fn widened(word: u32) -> f64
     requires { word % 2 ^ 31 < infinite }
     ensures { result ≡ from_bits binary32 word }
 {
-    f64::from(f32::from_bits(word))
+    f32::from_bits(word) as f64
 }
 
 // The word of a zero with the sign of a finite word.
