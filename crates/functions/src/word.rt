@@ -28,13 +28,14 @@ pub fn size_bits(x: f32) -> u32
 }
 
 // The float of a finite word, as an f64.
-// Kept by hand: f32_from_bits_with_nan, for any word, takes three instructions more, 2 to 5 in a hundred of a call.
+// Kept by hand: f32_from_bits_with_nan, for any word, takes three instructions more, 2 to 5 in a hundred of a call;
+// and so does f64::from in place of `as`.
 #[tactic(auto, using(crate::proofs::Wording::clean))]
 pub(crate) fn widened(word: u32) -> f64
     requires { word % 2 ^ 31 < infinite }
     ensures { result ≡ from_bits binary32 word }
 {
-    f64::from(f32::from_bits(word))
+    f32::from_bits(word) as f64
 }
 
 // The word of a zero with the sign of a finite word.

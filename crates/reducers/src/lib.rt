@@ -156,6 +156,7 @@ impl ArgumentReducer {
         if self.x_abs < SMALL_PASS_BOUND {
             self.reduce_small()
         } else {
+            // Kept by hand: an exponent is an i32 as pxfm's, and no From goes there from i64.
             self.reduce_large(exponent_of_bits::<f32>(u64::from(self.x_abs)) as i32)
         }
     }

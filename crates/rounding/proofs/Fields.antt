@@ -1,8 +1,6 @@
 -- A pattern by its fields: what it is worth, and how its parts move.
-use Rattle.std.proofs.Common.{◌≡◌, ℕ, zero, suc, ◌+◌, ◌-◌, ◌*◌, ◌/◌, ◌%◌, ◌^◌, ◌<◌, ◌≤◌, Bool, true, false, cond, not, refl, T, eqb, leb, ap, ◌∙◌, subst, not-suc-le-zero, lt_irrefl, arith, le→leb, eqb→eq, leb→le}
+use Rattle.std.proofs.Common.{◌≡◌, ℕ, zero, suc, ◌+◌, ◌-◌, ◌*◌, ◌/◌, ◌%◌, ◌^◌, ◌<◌, ◌≤◌, Bool, true, false, cond, not, T, eqb, leb, ap, ◌∙◌, subst, not-suc-le-zero, lt_irrefl, arith, le→leb, eqb→eq, leb→le}
 use lib.Dec.{nleb→lt}
-use native.Mathlib.Numerals.{unary_clauses}
-use lib.Count.{count_trailing_zeros, under}
 use lib.Ieee.{Float, Format, binary32, binary64, nan, inf, fin, prec, emax, low, hid, ones, top, of_bits, of_fields, odd}
 use lib.Ieee.Exact.{HasValue, odd_sign}
 use Rattle.rounding.specs.Round.{exponent_field, sign_bit}
@@ -93,17 +91,3 @@ stays binary64 b r B J L R c e = record { same = sign_same binary64 b c (λ l. o
 pub carries : (f : Format) (b : ℕ) → b < 2 * top f → emax f ≤ exponent_field f b → exponent_field f b < suc (low f) → (c : ℕ) → c ≡ (b / hid f - 1) * hid f + 2 ^ prec f → Placed f b c (exponent_field f b + 1) 0
 carries binary32 b B J K c e = record { same = sign_same binary32 b c (λ l. omega arith) (λ l. omega arith); field = omega arith; digits = omega arith }
 carries binary64 b B J K c e = record { same = sign_same binary64 b c (λ l. omega arith) (λ l. omega arith); field = omega arith; digits = omega arith }
-
--- a digit below two counts that agree where it is zero
-below_one : (b x y : ℕ) → (b ≡ 0 → x ≡ y) → under b x ≡ under b y
-below_one zero x y e = ap suc (e refl)
-below_one (suc b) x y e = refl
-
--- the zeros that end n are the same among more digits
-pub fewer_digits : (k j n : ℕ) → 0 < n → n < 2 ^ k → count_trailing_zeros (k + j) n ≡ count_trailing_zeros k n
-unfolding count_trailing_zeros
-fewer_digits zero j n p q = absurd (omega arith)
-fewer_digits (suc k) j n p q =
-    let two : 2 ^ suc k ≡ 2 * 2 ^ k = simp unary_clauses (omega arith) in
-    let one : suc k + j ≡ suc (k + j) = omega arith in
-    rw one (below_one (n % 2) (count_trailing_zeros (k + j) (n / 2)) (count_trailing_zeros k (n / 2)) (λ e. fewer_digits k j (n / 2) (omega arith) (omega arith)))

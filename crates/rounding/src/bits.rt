@@ -5,6 +5,10 @@ ghost use Rattle.rounding.specs.Round.{exponent_field};
 ghost use Rattle.rounding.specs.Bits.{field_of, exponent_of, mantissa_of, whole_bits, odd_bits, last_place, is_whole, is_odd};
 
 use crate::floats::BinaryFloat;
+use std::num::f32_to_bits_with_nan;
+
+// The exponent's field of a float whose last digit is that of 1.
+const UNIT_EXPONENT: u32 = 127 + 23;
 
 // Whether the sign is set. The NaN has none.
 pub fn is_sign_negative<F: BinaryFloat>(x: F) -> bool
@@ -30,6 +34,7 @@ fn exponent_field<F: BinaryFloat>(bits: u64) -> u64
 }
 
 // The exponent of a pattern, by its field.
+// Kept by hand: from u64 to i64 there is no From, so `as` it is, proved to lose nothing.
 pub fn exponent_of_bits<F: BinaryFloat>(bits: u64) -> i64
     ensures { result ≡ pos (exponent_field F.format bits) -ℤ pos (emax F.format) }
 {
@@ -58,10 +63,14 @@ pub fn mantissa<F: BinaryFloat>(x: F) -> u64
 }
 
 // The exponent's field and the zeros that end the significand.
-fn last_place(x: f32) -> u64
+// Kept by hand: by BinaryFloat's constants, which are u64, cospif takes 1 to 2 in a hundred more.
+fn last_place(x: f32) -> u32
     ensures { result ≡ last_place x }
 {
-    exponent_field::<f32>(x.bits()) + u64::from((f32::LEAD + mantissa(x)).trailing_zeros())
+    let x_u = f32_to_bits_with_nan(x);
+    let x_e = x_u % 0x8000_0000 >> 23;
+    let lsb = ((1 << 23) + x_u % (1 << 23)).trailing_zeros();
+    x_e + lsb
 }
 
 // Whether x has no digit after the point. Zero does not count, an infinity and the NaN do.
@@ -69,7 +78,7 @@ pub fn is_integerf(x: f32) -> bool
     ensures is { result ≡ whole_bits x }
     ensures means { 0 < to_bits binary32 x % 2 ^ 31 → to_bits binary32 x % 2 ^ 31 < 2139095040 → result ≡ is_whole x }
 {
-    last_place(x) >= f32::WHOLE
+    last_place(x) >= UNIT_EXPONENT
 }
 
 // Whether x is an odd whole number.
@@ -77,5 +86,5 @@ pub fn is_odd_integerf(x: f32) -> bool
     ensures is { result ≡ odd_bits x }
     ensures means { result ≡ is_odd x }
 {
-    last_place(x) == f32::WHOLE
+    last_place(x) == UNIT_EXPONENT
 }
