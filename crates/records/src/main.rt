@@ -18,7 +18,7 @@ fn byte(pair: &[u8]) -> Option<u8> {
     u8::try_from(high * 16 + low).ok()
 }
 
-// The bytes of a line of hex digits.
+// The bytes of a line of hex digits. A loop, since a pair that is no byte ends it with None, and a push with an error.
 fn bytes_of(heap: Global, line: &[u8]) -> Result<Option<Vec<u8>>, AllocError> {
     let mut bytes = Vec::new(heap);
     for pair in line.chunks(2) {
