@@ -2,14 +2,11 @@
 #![tactic(auto)]
 
 use agreement::pair::{Pair, compare};
-use record::report::{LONGEST, outcome};
+use record::report::{ENOUGH, outcome};
 use sheets::totals::Totals;
 use std::fs::File;
 use std::io::Read;
 use std::{env, io};
-
-// One byte more than a record may have: what is longer is refused whatever follows.
-const ENOUGH: u64 = LONGEST as u64 + 1;
 
 const USAGE: &str = "usage: agree RECORD_A RECORD_B";
 

@@ -24,10 +24,10 @@ const COS_NEAR: [f64; 5] = [
 ];
 
 // cos(x) = cos((k + y)*pi/32), by the table.
-fn cos_by_table(x: f64, x_abs: u32) -> f64
-    ensures { result ≡ cosine_at (reduced x x_abs) }
+fn cos_by_table(reducer: ArgumentReducer) -> f64
+    ensures { result ≡ cosine_at (reduced reducer.x reducer.x_abs) }
 {
-    let (y, k) = ArgumentReducer { x, x_abs }.steps();
+    let (y, k) = reducer.steps();
     let rs = sincosf_eval::<f64>(y, k);
     cosine(rs, -rs.sin_k)
 }
@@ -61,7 +61,7 @@ impl Circular for Cosf {
             }
             return narrow_word(even(xd, &COS_NEAR));
         }
-        narrow_word(cos_by_table(xd, x_abs))
+        narrow_word(cos_by_table(ArgumentReducer { x: xd, x_abs }))
     }
 }
 

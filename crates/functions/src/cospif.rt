@@ -25,7 +25,7 @@ const COSPI_NEAR: [f64; 5] = [
     f64::from_bits(0x3fce173c2a00e74e),
 ];
 
-// The kernel is chosen by the quadrant. At odd halves the zero is positive.
+// The kernel is chosen by the quadrant. At odd halves the zero is positive, so this is not `sine_by` a quarter on.
 fn cosine_by(k: u8, y: f64) -> f64
     ensures { result ≡ cosine_by k y }
 {
@@ -51,6 +51,7 @@ impl Circular for Cospif {
     ghost keeps = { cospif-near };
 
     // The plain path, from word to word.
+    // Kept by hand: a shape for the two of half turns would take each bound, first term and polynomial, and the whole numbers' answer, as a parameter.
     fn at(word: u32) -> u32 {
         let x_abs = word % SIGN;
         if x_abs >= INFINITE {

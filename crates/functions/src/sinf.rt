@@ -24,10 +24,10 @@ const SIN_NEAR: [f64; 5] = [
 ];
 
 // sin(x) = sin((k + y)*pi/32), by the table.
-fn sin_by_table(x: f64, x_abs: u32) -> f64
-    ensures { result ≡ sine_at (reduced x x_abs) }
+fn sin_by_table(reducer: ArgumentReducer) -> f64
+    ensures { result ≡ sine_at (reduced reducer.x reducer.x_abs) }
 {
-    let (y, k) = ArgumentReducer { x, x_abs }.steps();
+    let (y, k) = reducer.steps();
     sine(sincosf_eval::<f64>(y, k))
 }
 
@@ -64,7 +64,7 @@ impl Circular for Sinf {
             }
             return narrow_word(odd(xd, &SIN_NEAR));
         }
-        narrow_word(sin_by_table(xd, x_abs))
+        narrow_word(sin_by_table(ArgumentReducer { x: xd, x_abs }))
     }
 }
 

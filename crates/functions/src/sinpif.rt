@@ -48,6 +48,7 @@ impl Circular for Sinpif {
     ghost keeps = { sinpif-near };
 
     // The plain path, from word to word.
+    // Kept by hand: a shape for the two of half turns would take each bound, first term and polynomial, and the whole numbers' answer, as a parameter.
     fn at(word: u32) -> u32 {
         let x_abs = word % SIGN;
         if x_abs >= INFINITE {

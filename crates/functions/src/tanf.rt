@@ -23,10 +23,10 @@ const TAN_NEAR: [f64; 5] = [
 ];
 
 // tan(x) = tan((k + y)*pi/32), by the table.
-fn tan_by_table(x: f64, x_abs: u32) -> f64
-    ensures { result ≡ tangent_at (reduced x x_abs) }
+fn tan_by_table(reducer: ArgumentReducer) -> f64
+    ensures { result ≡ tangent_at (reduced reducer.x reducer.x_abs) }
 {
-    let (y, k) = ArgumentReducer { x, x_abs }.steps();
+    let (y, k) = reducer.steps();
     tangent(tanf_eval(y, k))
 }
 
@@ -63,7 +63,7 @@ impl Circular for Tanf {
             }
             return narrow_word(odd(xd, &TAN_NEAR));
         }
-        narrow_word(tan_by_table(xd, x_abs))
+        narrow_word(tan_by_table(ArgumentReducer { x: xd, x_abs }))
     }
 }
 

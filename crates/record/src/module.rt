@@ -10,7 +10,7 @@ use readers::edition::{HalfTurns, Radians};
 use readers::mount::{Mirrored, Turned};
 use readers::reader::{Reader, ReaderFault};
 
-// A word by a reader under a mount.
+// A word by a reader under a mount: an Option with a flag, matched here alone.
 fn read_under<R: Reader + Drop>(
     below: R,
     mount: Option<Mount>,

@@ -17,7 +17,7 @@ pub(crate) fn push_line(page: &mut Page, word: &str, number: &str)
     page.push_str("\n");
 }
 
-// A page from the buffer's first byte on; answers its length.
+// A page from the first byte of a lent buffer on; answers its length.
 pub(crate) fn lay(page: &Page, buffer: &mut [u8]) -> usize
     requires { 96 ≤ length buffer.old }
     ensures page { buffer.new ≡ pasted buffer.old 0 page.now.bytes }

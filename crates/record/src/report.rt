@@ -14,6 +14,9 @@ pub const ROOM: usize = 96;
 // The most bytes of a record.
 pub const LONGEST: usize = 65_536;
 
+// One byte more than a record may have: what is longer is refused whatever follows.
+pub const ENOUGH: u64 = LONGEST as u64 + 1;
+
 // What a record comes to: its numbers, or why it is refused. Has it at most 65,536 bytes, then its own questions.
 pub fn outcome(bytes: &[u8]) -> Result<Tally, RecordFault>
     ensures { result ≡ outcome_of 96 bytes.now }
@@ -24,7 +27,7 @@ pub fn outcome(bytes: &[u8]) -> Result<Tally, RecordFault>
     read_record(bytes)
 }
 
-// The report of a record, from the buffer's first byte on, and its length; a refusal writes nothing.
+// The report of a record, from the first byte of a lent buffer on, as C lends it, and its length; a refusal writes nothing.
 // The first no decides; the printed totals are within 33 units for each cm/s standing of the exact ones.
 pub fn report(bytes: &[u8], buffer: &mut [u8]) -> Result<usize, RecordFault>
     ensures outcome { Reported (outcome_of (length buffer.old) bytes.now) result buffer.old buffer.new }
@@ -37,7 +40,7 @@ pub fn report(bytes: &[u8], buffer: &mut [u8]) -> Result<usize, RecordFault>
     Ok(lay(&tally.page(), buffer))
 }
 
-// The line of a refusal, from the buffer's first byte on, and its length.
+// The line of a refusal, from the first byte of a lent buffer on, as C lends it, and its length.
 pub fn refusal_line(fault: RecordFault, buffer: &mut [u8]) -> Result<usize, RecordFault>
     ensures { Told fault result buffer.old buffer.new }
 {

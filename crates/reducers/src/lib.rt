@@ -166,9 +166,17 @@ impl ArgumentReducer {
         ensures rest { result.0 ≡ (reduced self.x self.x_abs).0 }
         ensures step { result.1 ≡ mod_turn (reduced self.x self.x_abs).1 }
     {
-        let (y, k) = self.reduce();
-        (y, step_of(k))
+        within_turn(self.reduce())
     }
+}
+
+// A reducer's pair, its count within a turn.
+pub(crate) fn within_turn(pair: (f64, i64)) -> (f64, u8)
+    ensures rest { result.0 ≡ pair.0 }
+    ensures step { result.1 ≡ mod_turn pair.1 }
+{
+    let (y, k) = pair;
+    (y, step_of(k))
 }
 
 // k modulo 64: the step within a turn.

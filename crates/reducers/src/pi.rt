@@ -6,7 +6,7 @@ ghost use Rattle.exact.specs.Multiple.{Smaller};
 ghost use Rattle.reducers.specs.Reduce.{reduce_pi, reduce_quarter};
 ghost use Rattle.reducers.specs.Exact.{mod_turn, PiReduced, QuarterReduced};
 
-use crate::step_of;
+use crate::within_turn;
 use rounding::{f_fmla, round_counted};
 
 // The reducer of half turns: x stands for x * pi radians.
@@ -31,8 +31,7 @@ impl ArgumentReducerPi {
         ensures rest { result.0 ≡ (reduce_pi self.x).0 }
         ensures step { result.1 ≡ mod_turn (reduce_pi self.x).1 }
     {
-        let (y, k) = self.reduce();
-        (y, step_of(k))
+        within_turn(self.reduce())
     }
 
     // k = round(x * 2) and y = x - k / 2.

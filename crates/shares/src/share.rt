@@ -21,7 +21,7 @@ pub fn share(x: f64) -> i32
     saturating_f64_to_i32(round(scaled))
 }
 
-// The shares of k + y steps, whole turns of 64 aside.
+// The shares of k + y steps, whole turns of 64 aside; k and y as a reader's pair is taken apart.
 pub fn shares_of(k: u8, y: f64) -> Shares
     ensures sine_is { result.sine ≡ sine_share k y }
     ensures cosine_is { result.cosine ≡ cosine_share k y }

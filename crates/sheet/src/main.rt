@@ -1,12 +1,9 @@
 // Reads a record on standard input and prints its report, or the line of its refusal.
 #![tactic(auto)]
 
-use record::report::{LONGEST, printed};
+use record::report::{ENOUGH, printed};
 use std::io;
 use std::io::Read;
-
-// One byte more than a record may have: what is longer is refused whatever follows.
-const ENOUGH: u64 = LONGEST as u64 + 1;
 
 fn main(rt: HostRuntime) -> io::Result<()> {
     let mut bytes: Vec<u8> = Vec::new(rt.alloc());

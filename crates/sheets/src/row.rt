@@ -16,7 +16,7 @@ pub struct Row {
 }
 
 impl Row {
-    // An entry with its word's shares.
+    // An entry with its word's shares. The two come apart, here and below: one from the caller, the other from the reader.
     pub fn new(entry: Entry, shares: Shares) -> Row
         ensures { result ≡ entry_row entry shares }
     {

@@ -73,7 +73,7 @@ fn digit(b: u8) -> Option<u32>
     char::from(b).to_digit(16)
 }
 
-// The word that eight hex digits write.
+// The word that eight hex digits write. Not by `from_str_radix`, which takes a sign for a digit.
 fn word_of(text: &[u8]) -> Option<u32>
     requires { length text.now ≡ 8 }
     ensures { result ≡ word_of 0 text.now }

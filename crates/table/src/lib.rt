@@ -122,7 +122,7 @@ const COSM1_Y: [f64; 3] = [
     f64::from_bits(0xbe155cc84bd94200),
 ];
 
-// The table text: the parts of the sine and the cosine of k + y steps.
+// The table text: the parts of the sine and the cosine of k + y steps. Here and below y and k stand apart, as a reducer's pair is taken apart by a rule of the project.
 pub fn sincosf_eval<T: Form>(y: f64, k: u8) -> SinCosf<T>
     ensures sin_k { result.sin_k ≡ T.Form.made (table_sine (k % 64)) }
     ensures cos_k { result.cos_k ≡ T.Form.made (table_cosine (k % 64)) }
@@ -145,26 +145,25 @@ pub fn sincosf_eval<T: Form>(y: f64, k: u8) -> SinCosf<T>
     }
 }
 
-// The sine from its parts, in pxfm's order.
+// The sum of a step's part, and that of a quarter turn on, with the rest y, in pxfm's order.
+fn sum<T: Form>(p: SinCosf<T>, part: T, further: T) -> T
+    ensures { result ≡ sum_of T.Form.mla p.sin_y p.cosm1_y part further }
+{
+    T::polyeval_mla(p.sin_y, further, T::polyeval_mla(p.cosm1_y, part, part))
+}
+
+// The sine from its parts.
 pub fn sine<T: Form>(p: SinCosf<T>) -> T
     ensures { result ≡ sum_of T.Form.mla p.sin_y p.cosm1_y p.sin_k p.cos_k }
 {
-    T::polyeval_mla(
-        p.sin_y,
-        p.cos_k,
-        T::polyeval_mla(p.cosm1_y, p.sin_k, p.sin_k),
-    )
+    sum(p, p.sin_k, p.cos_k)
 }
 
 // The cosine from its parts and the negated sine of the step.
 pub fn cosine<T: Form>(p: SinCosf<T>, minus_sin_k: T) -> T
     ensures { result ≡ sum_of T.Form.mla p.sin_y p.cosm1_y p.cos_k minus_sin_k }
 {
-    T::polyeval_mla(
-        p.sin_y,
-        minus_sin_k,
-        T::polyeval_mla(p.cosm1_y, p.cos_k, p.cos_k),
-    )
+    sum(p, p.cos_k, minus_sin_k)
 }
 
 // The sine and the cosine of k + y steps. For -sin_k the table's f64 changes sign before the form makes a value.

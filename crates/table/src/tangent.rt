@@ -88,7 +88,7 @@ const TAN_Y: [f64; 4] = [
     f64::from_bits(0x3e346a33cde88184),
 ];
 
-// The parts of the tangent of k + y steps.
+// The parts of the tangent of k + y steps. The signature is pxfm's.
 pub fn tanf_eval(y: f64, k: u8) -> TanfEval
     ensures tan_k { result.tan_k ≡ table_tangent (k % 64) }
     ensures tan_y { result.tan_y ≡ tan_of_y y }
