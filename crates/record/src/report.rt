@@ -19,7 +19,8 @@ pub const ENOUGH: u64 = LONGEST as u64 + 1;
 
 // What a record comes to: its numbers, or why it is refused. Has it at most 65,536 bytes, then its own questions.
 pub fn outcome(bytes: &[u8]) -> Result<Tally, RecordFault>
-    ensures { result ≡ outcome_of 96 bytes.now }
+    ensures is { result ≡ outcome_of 96 bytes.now }
+    ensures means { Means 96 bytes.now (outcome_of 96 bytes.now) }
 {
     if bytes.len() > LONGEST {
         return Err(Cause::TooLong.at(0));
@@ -52,7 +53,8 @@ pub fn refusal_line(fault: RecordFault, buffer: &mut [u8]) -> Result<usize, Reco
 
 // What is printed of a record: its report, or the line of its refusal.
 pub fn printed(bytes: &[u8]) -> Page
-    ensures { result.bytes ≡ text_of (outcome_of 96 bytes.now) }
+    ensures is { result.bytes ≡ text_of (outcome_of 96 bytes.now) }
+    ensures means { Means 96 bytes.now (outcome_of 96 bytes.now) }
 {
     match outcome(bytes) {
         Ok(tally) => tally.page(),

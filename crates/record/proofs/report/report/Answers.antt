@@ -19,7 +19,7 @@ returns-in_err-tally c =
     let bytes : List ℕ = c.args.bytes.now in
     let room : ℕ = length c.args.buffer.now in
     record {
-      outcome = refused (outcome_of room bytes) c.in_err-tally.field-0.0 p.0 c.args.buffer.now c.from_residual.result (roomy room bytes c.if-buffer-lt-ROOM.false ∙ sym c.in_err-tally.ensures) p.1 p.2;
+      outcome = refused (outcome_of room bytes) c.in_err-tally.field-0.0 p.0 c.args.buffer.now c.from_residual.result (roomy room bytes c.if-buffer-lt-ROOM.false ∙ sym c.in_err-tally.ensures.is) p.1 p.2;
       means = outcome-means room bytes (λ i. (c.type_inv.bytes i).fits);
     }
 
@@ -28,6 +28,6 @@ returns c =
     let bytes : List ℕ = c.args.bytes.now in
     let room : ℕ = length c.args.buffer.now in
     record {
-      outcome = written (outcome_of room bytes) c.in_ok-tally.tally c.lay.result c.args.buffer.now c.lay.new.buffer _ (roomy room bytes c.if-buffer-lt-ROOM.false ∙ sym c.in_ok-tally.ensures) c.page.ensures c.lay.ensures.end c.lay.ensures.page;
+      outcome = written (outcome_of room bytes) c.in_ok-tally.tally c.lay.result c.args.buffer.now c.lay.new.buffer _ (roomy room bytes c.if-buffer-lt-ROOM.false ∙ sym c.in_ok-tally.ensures.is) c.page.ensures c.lay.ensures.end c.lay.ensures.page;
       means = outcome-means room bytes (λ i. (c.type_inv.bytes i).fits);
     }
