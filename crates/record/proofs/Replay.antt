@@ -16,7 +16,7 @@ use Rattle.record.specs.declared.item.Item.TheVariants.{Put}
 use Rattle.record.specs.declared.state.State.{State}
 use Rattle.record.specs.Refusals.{located}
 use Rattle.record.specs.Fields.{and_then, Read, field_at}
-use Rattle.record.specs.Record.{saying, following, fields, lifted, put, made, replay}
+use Rattle.record.specs.Record.{saying, following, fields, lifted, put, made, replay, first_mount, said_mount}
 use Rattle.record.specs.Reached.{Follows}
 use Rattle.record.proofs.Cuts.{field-shorter}
 
@@ -74,6 +74,12 @@ fields-step s total bytes r h e =
     ] in
     f.2 ∙ ap (λ q. record { at = total - length bytes; said = saying q } ∷ following q (λ f'. fields f.0 f'.state total f'.rest)) e
     ∙ ap (λ l. record { at = total - length bytes; said = saying r } ∷ l) (go r e)
+
+-- the mount that the first of them says, from bytes on
+pub first-said : (s : State) (total : ℕ) (bytes : List ℕ) (r : Result Read Cause) → field_at s bytes ≡ r → first_mount (fields (length bytes) s total bytes) ≡ said_mount (saying r)
+unfolding field_at
+first-said s total [] r e = ap first_mount (fields-none 0 s total) ∙ ap (λ q. said_mount (saying q)) e
+first-said s total (b ∷ bs) r e = ap first_mount (fields-step s total (b ∷ bs) r (omega arith) e)
 
 -- ---- a replay beside the sheet
 module _ (steps : ℕ → Steps) (answer : ℕ → Reading) (outcome : Result (List Entry) RecordFault) (book : List Entry) (after : List Row) where

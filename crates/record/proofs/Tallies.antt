@@ -9,12 +9,16 @@ use Rattle.sheets.specs.Runs.{filled}
 use Rattle.sheets.proofs.Sums.{length-order, sum_by_order, folded-order}
 use Rattle.record.specs.declared.edition.Edition.{Edition}
 use Rattle.record.specs.declared.edition.Mount.{Mount}
+use Rattle.record.specs.declared.fault.Cause.{Cause}
 use Rattle.record.specs.declared.fault.Cause.TheVariants.{Tag}
 use Rattle.record.specs.declared.fault.RecordFault.{RecordFault}
+use Rattle.record.specs.declared.fields.Field.{Field}
+use Rattle.record.specs.declared.state.State.TheVariants as state
 use Rattle.record.specs.declared.tally.Tally.{Tally}
 use Rattle.record.specs.Fields.{and_then}
-use Rattle.record.specs.Record.{fields_of, replay, edition_of, mount_of, edition_steps, edition_answer, steps_under, answer_under, tally_of, tallied, record_tally}
+use Rattle.record.specs.Record.{fields_of, replay, edition_of, mount_of, tally_of, tallied, record_tally}
 use Rattle.record.specs.Reached.{Follows}
+use Rattle.record.proofs.Replay.{fields-first, fields-none}
 
 pub tally-refused : (answer : ℕ → Reading) (rows : List Row) (outcome : Result (List Entry) RecordFault) (e : Edition) (f : RecordFault) → Follows answer rows outcome (Err f) → Err f ≡ and_then outcome (λ book. Ok (tally_of e answer book))
 tally-refused answer rows (Ok book) e f h = absurd h
@@ -39,19 +43,28 @@ unfolding record_tally
 record-by [] h = absurd (omega arith)
 record-by (b ∷ bs) h = refl
 
-pub record-none : (bytes : List ℕ) → length bytes ≡ 0 → Err (record { cause = Tag; offset = 0 }) ≡ record_tally bytes
+-- one with no field is empty
+pub record-none : (bytes : List ℕ) → fields_of bytes ≡ [] → Err (record { cause = Tag; offset = 0 }) ≡ record_tally bytes
 unfolding record_tally
 record-none [] h = refl
-record-none (b ∷ bs) h = absurd (omega arith)
+record-none (b ∷ bs) h =
+    let f = fields-first (length (b ∷ bs)) state.Edition (length (b ∷ bs)) (b ∷ bs) (omega arith) (omega arith) in
+    absurd (omega (arith, ap length (sym f.2 ∙ h)))
 
--- ---- the whole record, by what its fields say of its module
-module _ (bytes : List ℕ) (e : Edition) (m : Option Mount) (rows : List Row) (there : 0 < length bytes) (isEdition : e ≡ edition_of (fields_of bytes)) (isMount : m ≡ mount_of (fields_of bytes)) where
-  tallied-is : tallied e m (fields_of bytes) ≡ record_tally bytes
-  tallied-is = ap (λ z. tallied z m (fields_of bytes)) isEdition ∙ ap (λ z. tallied (edition_of (fields_of bytes)) z (fields_of bytes)) isMount ∙ sym (record-by bytes there)
+-- and one with a field is not
+pub record-there : (bytes : List ℕ) (f : Field) (more : List Field) → fields_of bytes ≡ f ∷ more → 0 < length bytes
+record-there [] f more h = absurd (omega (arith, ap length (sym (fields-none 0 state.Edition 0) ∙ h)))
+record-there (b ∷ bs) f more h = omega arith
 
-  pub record-refused : (f : RecordFault) → Follows (answer_under m (edition_answer e)) rows (replay (steps_under m (edition_steps e)) [] (fields_of bytes)) (Err f) → Err f ≡ record_tally bytes
-  record-refused f F = tally-refused (answer_under m (edition_answer e)) rows _ e f F ∙ tallied-is
+-- where the first field is refused, the record is, there and so
+pub record-refused : (bytes : List ℕ) (f : Field) (c : Cause) (more : List Field) → fields_of bytes ≡ f ∷ more → f.said ≡ Err c → Err (record { cause = c; offset = f.at }) ≡ record_tally bytes
+unfolding replay
+record-refused bytes f c more h refused =
+    let told : List Field → Result Tally RecordFault = λ l. tallied (edition_of l) (mount_of l) l in
+    sym (record-by bytes (record-there bytes f more h) ∙ ap told h ∙ ap (λ s. told (record { at = f.at; said = s } ∷ more)) refused)
 
-  pub record-made : (n s : ℕ) (a b : ℤ) → Follows (answer_under m (edition_answer e)) rows (replay (steps_under m (edition_steps e)) [] (fields_of bytes)) (Ok tt) → n ≡ length rows → s ≡ speed_of rows → a ≡ along_of rows → b ≡ across_of rows
-      → Ok (record { edition = e; rows = n; totals = record { speed = s; along = a; across = b } }) ≡ record_tally bytes
-  record-made n s a b F p q r t = tally-made (answer_under m (edition_answer e)) rows _ e n s a b F p q r t ∙ tallied-is
+-- the whole record, by what its fields say of its module
+pub told-is : (bytes : List ℕ) (f : Field) (more : List Field) (e : Edition) (m : Option Mount) → fields_of bytes ≡ f ∷ more → e ≡ edition_of (f ∷ more) → m ≡ mount_of (f ∷ more) → tallied e m (f ∷ more) ≡ record_tally bytes
+told-is bytes f more e m h isEdition isMount =
+    ap (λ z. tallied z m (f ∷ more)) isEdition ∙ ap (λ z. tallied (edition_of (f ∷ more)) z (f ∷ more)) isMount
+    ∙ sym (record-by bytes (record-there bytes f more h) ∙ ap (λ l. tallied (edition_of l) (mount_of l) l) h)

@@ -1,8 +1,9 @@
 // The fields of a record, one after the other.
 ghost use Rattle.std.specs.Prelude.{◌≡◌};
 ghost use Rattle.std.specs.Iterator.{YieldsFirst, item_count};
-ghost use Rattle.record.specs.Record.{fields_of};
+ghost use Rattle.record.specs.Record.{fields_of, first_mount};
 
+use crate::edition::Mount;
 use crate::fault::Cause;
 use crate::item::{Item, read_field};
 use crate::state::State;
@@ -44,6 +45,16 @@ impl<'a> Fields<'a> {
             rest: bytes,
             state: State::Edition,
             total: bytes.len(),
+        }
+    }
+
+    // The mount that the next field says, if it says one.
+    pub(crate) fn mount(&self) -> Option<Mount>
+        ensures { result ≡ first_mount self.now }
+    {
+        match read_field(self.rest, self.state) {
+            Ok(taken) => taken.item.mount(),
+            Err(_) => None,
         }
     }
 }

@@ -13,3 +13,4 @@ pub mod report;
 mod rows;
 pub mod state;
 pub mod tally;
+mod text;

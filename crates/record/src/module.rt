@@ -1,5 +1,5 @@
 // The module that a record is of: its edition's reader, under its mount. It is a reader like any other.
-ghost use Rattle.std.specs.Prelude.{◌≡◌};
+ghost use Rattle.std.specs.Prelude.{◌≡◌, ◌∷◌};
 ghost use Rattle.record.specs.Record.{fields_of, edition_of, mount_of, steps_under, answer_under, edition_steps, edition_answer};
 ghost use Rattle.record.specs.Modules.{under-keeps};
 
@@ -33,26 +33,34 @@ pub struct Module {
 }
 
 impl Module {
+    // The module of a record's first field and those after it: radians if they name no edition, and no mount if they name none.
+    pub(crate) fn opening(first: Field, more: &Fields<'_>) -> Module
+        ensures edition { result.edition ≡ edition_of (first ∷ more.now) }
+        ensures mount { result.mount ≡ mount_of (first ∷ more.now) }
+    {
+        let edition = match first.said {
+            Ok(Item::Edition(edition)) => edition,
+            _ => Edition::Radians,
+        };
+        Module {
+            edition,
+            mount: more.mount(),
+        }
+    }
+
     // The module of a record's bytes: radians if they name no edition, and no mount if they name none.
     pub fn of(bytes: &[u8]) -> Module
         ensures edition { result.edition ≡ edition_of (fields_of bytes.now) }
         ensures mount { result.mount ≡ mount_of (fields_of bytes.now) }
     {
         let mut fields = Fields::of(bytes);
-        let edition = match fields.next() {
-            Some(
-                Field {
-                    said: Ok(Item::Edition(edition)),
-                    ..
-                },
-            ) => edition,
-            _ => Edition::Radians,
-        };
-        let mount = match fields.next() {
-            Some(Field { said: Ok(item), .. }) => item.mount(),
-            _ => None,
-        };
-        Module { edition, mount }
+        match fields.next() {
+            Some(first) => Module::opening(first, &fields),
+            None => Module {
+                edition: Edition::Radians,
+                mount: None,
+            },
+        }
     }
 }
 

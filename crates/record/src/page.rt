@@ -1,6 +1,6 @@
 // What is printed of a record: a text of at most 96 bytes, line by line. Not by `write!`, which may fail where no clause says that there is room.
 ghost use Rattle.std.specs.Prelude.{◌≡◌, ◌+◌, ◌≤◌, ◌++◌, length};
-ghost use Rattle.record.specs.Page.{pasted, line};
+ghost use Rattle.record.specs.Page.{line};
 
 use arrayvec::ArrayString;
 
@@ -15,15 +15,4 @@ pub(crate) fn push_line(page: &mut Page, word: &str, number: &str)
     page.push_str(word);
     page.push_str(number);
     page.push_str("\n");
-}
-
-// A page from the first byte of a lent buffer on; answers its length.
-pub(crate) fn lay(page: &Page, buffer: &mut [u8]) -> usize
-    requires { 96 ≤ length buffer.old }
-    ensures page { buffer.new ≡ pasted buffer.old 0 page.now.bytes }
-    ensures end { result ≡ length page.now.bytes }
-{
-    let text = page.as_str().as_bytes();
-    buffer[..text.len()].copy_from_slice(text);
-    text.len()
 }

@@ -1,12 +1,14 @@
 // A report of a record, or the line of its refusal, in a lent buffer or as a page.
-ghost use Rattle.std.specs.Prelude.{◌≡◌, length};
+ghost use Rattle.std.specs.Prelude.{◌≡◌, ◌≤◌, length};
 ghost use Rattle.record.specs.Outcome.{Means};
-ghost use Rattle.record.specs.Page.{outcome_of, text_of, Reported, Told};
+ghost use Rattle.record.specs.Page.{pasted, lines, refusal, outcome_of, text_of, Reported, Told};
 
+use crate::edition::Edition;
 use crate::fault::{Cause, RecordFault};
-use crate::page::{Page, lay};
+use crate::page::Page;
 use crate::reading::read_record;
 use crate::tally::Tally;
+use crate::text::{put, put_decimal, put_line, put_signed_line};
 
 // The fewest bytes of a buffer.
 pub const ROOM: usize = 96;
@@ -28,6 +30,26 @@ pub fn outcome(bytes: &[u8]) -> Result<Tally, RecordFault>
     read_record(bytes)
 }
 
+// The five lines, in a lent buffer.
+fn write_lines(
+    buffer: &mut [u8],
+    edition: Edition,
+    rows: u16,
+    speed: u32,
+    along: i64,
+    across: i64,
+) -> usize
+    requires { 96 ≤ length buffer.old }
+    ensures page { buffer.new ≡ pasted buffer.old 0 (lines edition rows speed along across) }
+    ensures end { result ≡ length (lines edition rows speed along across) }
+{
+    let a = put_line(buffer, 0, b"edition ", edition.number() as u64);
+    let b = put_line(buffer, a, b"rows ", rows as u64);
+    let c = put_line(buffer, b, b"speed ", speed as u64);
+    let d = put_signed_line(buffer, c, b"along ", along);
+    put_signed_line(buffer, d, b"across ", across)
+}
+
 // The report of a record, from the first byte of a lent buffer on, as C lends it, and its length; a refusal writes nothing.
 // The first no decides; the printed totals are within 33 units for each cm/s standing of the exact ones.
 pub fn report(bytes: &[u8], buffer: &mut [u8]) -> Result<usize, RecordFault>
@@ -38,7 +60,27 @@ pub fn report(bytes: &[u8], buffer: &mut [u8]) -> Result<usize, RecordFault>
         return Err(Cause::Buffer.at(0));
     }
     let tally = outcome(bytes)?;
-    Ok(lay(&tally.page(), buffer))
+    Ok(write_lines(
+        buffer,
+        tally.edition,
+        tally.rows,
+        tally.totals.speed,
+        tally.totals.along,
+        tally.totals.across,
+    ))
+}
+
+// The line of a refusal with this number at this place, in a lent buffer.
+fn write_refusal(buffer: &mut [u8], number: u8, offset: usize) -> usize
+    requires { 96 ≤ length buffer.old }
+    ensures page { buffer.new ≡ pasted buffer.old 0 (refusal number offset) }
+    ensures end { result ≡ length (refusal number offset) }
+{
+    let a = put(buffer, 0, b"refused ");
+    let b = put_decimal(buffer, a, number as u64);
+    let c = put(buffer, b, b" at ");
+    let d = put_decimal(buffer, c, offset as u64);
+    put(buffer, d, b"\n")
 }
 
 // The line of a refusal, from the first byte of a lent buffer on, as C lends it, and its length.
@@ -48,7 +90,7 @@ pub fn refusal_line(fault: RecordFault, buffer: &mut [u8]) -> Result<usize, Reco
     if buffer.len() < ROOM {
         return Err(Cause::Buffer.at(0));
     }
-    Ok(lay(&fault.page(), buffer))
+    Ok(write_refusal(buffer, fault.cause.number(), fault.offset))
 }
 
 // What is printed of a record: its report, or the line of its refusal.

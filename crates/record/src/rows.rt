@@ -4,7 +4,7 @@ ghost use Rattle.sheets.specs.declared.book.Entry.{Entry};
 ghost use Rattle.sheets.specs.Sheets.{rows, RowsAlone};
 ghost use Rattle.sheets.specs.Runs.{Grown};
 ghost use Rattle.record.specs.Refusals.{located};
-ghost use Rattle.record.specs.Record.{fields_of, replay, put, made};
+ghost use Rattle.record.specs.Record.{replay, put, made};
 ghost use Rattle.record.specs.Reached.{Follows};
 
 use crate::fault::{Cause, RecordFault, at_offset};
@@ -26,7 +26,7 @@ fn put_item<R: Reader>(sheet: &mut Sheet<R>, item: Item) -> Result<(), Cause>
 }
 
 // One field, put to the sheet if it says anything.
-fn put_field<R: Reader>(sheet: &mut Sheet<R>, field: Field) -> Result<(), RecordFault>
+pub(crate) fn put_field<R: Reader>(sheet: &mut Sheet<R>, field: Field) -> Result<(), RecordFault>
     ensures made { (book : List Entry) → Grown (R.Reader.answer sheet.old.reader) book (rows sheet.old) → Follows (R.Reader.answer sheet.old.reader) (rows sheet.new) (made (R.Reader.steps sheet.old.reader) book field) result }
     ensures rest { RowsAlone result sheet.old sheet.new }
 {
@@ -36,12 +36,15 @@ fn put_field<R: Reader>(sheet: &mut Sheet<R>, field: Field) -> Result<(), Record
     }
 }
 
-// All fields of a record, up to the first that is refused.
-pub(crate) fn put_record<R: Reader>(sheet: &mut Sheet<R>, bytes: &[u8]) -> Result<(), RecordFault>
-    ensures made { (book : List Entry) → Grown (R.Reader.answer sheet.old.reader) book (rows sheet.old) → Follows (R.Reader.answer sheet.old.reader) (rows sheet.new) (replay (R.Reader.steps sheet.old.reader) book (fields_of bytes.now)) result }
+// Fields of a record, up to the first that is refused.
+pub(crate) fn put_record<R: Reader>(
+    sheet: &mut Sheet<R>,
+    fields: Fields<'_>,
+) -> Result<(), RecordFault>
+    ensures made { (book : List Entry) → Grown (R.Reader.answer sheet.old.reader) book (rows sheet.old) → Follows (R.Reader.answer sheet.old.reader) (rows sheet.new) (replay (R.Reader.steps sheet.old.reader) book fields.entry) result }
     ensures reader { sheet.new.reader ≡ sheet.old.reader }
 {
-    for field in Fields::of(bytes) {
+    for field in fields {
         put_field(sheet, field)?;
     }
     Ok(())

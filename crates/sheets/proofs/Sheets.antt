@@ -1,10 +1,11 @@
 -- What the questions come to on a sheet.
-use Rattle.std.proofs.Common.{◌≡◌, ℕ, suc, ◌+◌, ◌<◌, ◌≤◌, Bool, true, false, cond, ◌||◌, eqb, ltb, List, [], ◌∷◌, ◌++◌, length, pos, is_some, IsOkAnd, subst, Some, None, Ok, Err, Option, MatchOption, option_map, Result, MatchResult, position, sym, refl, ap, ◌∙◌, arith}
-use Rattle.std.specs.List.{position_from, AllWithin, HoldsAt, ContainsAt as Has}
+use Rattle.std.proofs.Common.{◌≡◌, ℕ, ◌+◌, ◌<◌, ◌≤◌, Bool, true, false, cond, ◌||◌, eqb, ltb, List, [], ◌∷◌, ◌++◌, length, pos, is_some, IsOkAnd, subst, Some, None, Ok, Err, Option, MatchOption, Result, MatchResult, position, slice_get, get_or, sym, refl, ap, ◌∙◌, arith}
+use Rattle.std.specs.List.{position_from, ContainsAt as Has}
 use Rattle.std.proofs.lemmas.Iterator.Adapters.{position_from-zero}
 use Rattle.std.proofs.lemmas.List.Quantifiers.{position-Some}
+use Rattle.std.proofs.lemmas.Option.{get_or_from_slice_get, slice_get-get_or}
 use lib.Ieee.{Float}
-use Rattle.std.proofs.lemmas.Bool.{cond-true, cond-false, lt-ltb, le-ltb, eqb-true, or_from}
+use Rattle.std.proofs.lemmas.Bool.{cond-true, cond-false, lt-ltb, le-ltb, eqb-true}
 use Rattle.std.proofs.lemmas.List.{get_or-map, length-map, map_push}
 use Rattle.exact.specs.Fraction.{Fraction}
 use Rattle.readers.specs.Meaning.{Steps, Reading, Keeps}
@@ -62,16 +63,12 @@ place-found s rows i e =
     let p = position-Some (λ (r : Row). eqb r.sample s) rows i none_row (sym e) in
     record { within = p.0; same = get_or-map (λ (r : Row). r.sample) rows i none_row 0 p.0 ∙ eqb-true _ s p.1 }
 
-none_among : (s : ℕ) (rows : List Row) → AllWithin (λ r. eqb r.sample s ≡ false) rows 0 (length rows) → among s (samples rows) ≡ false
-none_among s [] h = refl
-none_among s (r ∷ rows) h = or_from (eqb s r.sample) (among s (samples rows)) (eqb-sym s r.sample ∙ h 0 r (omega arith) (omega arith)) (none_among s rows (λ k d a b. h (suc k) d (omega arith) (omega arith)))
-
--- the first row that has the sample, or there is none
-pub found_row : {A : Type 0} (v : A → Row) (s : ℕ) (rows : List Row) (o : Option A) (r : Option Row) → r ≡ option_map v o
-    → MatchOption o (AllWithin (λ r. eqb r.sample s ≡ false) rows 0 (length rows)) (λ x. ((v x).sample ≡ s) × (i : ℕ) × (i < length rows) × HoldsAt (λ y. y ≡ v x) rows i × AllWithin (λ r. eqb r.sample s ≡ false) rows 0 i)
-    → MatchOption r (among s (samples rows) ≡ false) (λ row. (row.sample ≡ s) × Has rows row)
-found_row v s rows None r e h = subst (λ r. MatchOption r (among s (samples rows) ≡ false) (λ row. (row.sample ≡ s) × Has rows row)) (sym e) (none_among s rows h)
-found_row v s rows (Some x) r e h = subst (λ r. MatchOption r (among s (samples rows) ≡ false) (λ row. (row.sample ≡ s) × Has rows row)) (sym e) (h.0, (h.1, h.2, h.3))
+-- the row at a sample's place is one of that sample
+pub row-there : (s : ℕ) (rows : List Row) (i : ℕ) (r : Option Row) → Found s rows i → r ≡ slice_get rows i → MatchOption r (among s (samples rows) ≡ false) (λ row. (row.sample ≡ s) × Has rows row)
+row-there s rows i r f e =
+    let here : slice_get rows i ≡ Some (get_or rows i none_row) = slice_get-get_or rows i none_row f.within in
+    subst (λ r. MatchOption r (among s (samples rows) ≡ false) (λ row. (row.sample ≡ s) × Has rows row)) (sym (e ∙ here))
+    (sym (get_or-map (λ (r : Row). r.sample) rows i none_row 0 f.within) ∙ f.same, (i, f.within, λ d. get_or_from_slice_get rows i (get_or rows i none_row) d here))
 
 module _ (o : Steps) (u : Fraction) (angle : o ≡ Some u) (ss : List ℕ) (s : ℕ) where
   pub enter-taken : among s ss ≡ true → Err Taken ≡ may_enter o ss s

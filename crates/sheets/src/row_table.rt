@@ -106,7 +106,8 @@ impl Table {
     pub(crate) fn find(&self, sample: u16) -> Option<Row>
         ensures { MatchOption result (among sample (samples self.now.rows) ≡ false) (λ row. (row.sample ≡ sample) × Has self.now.rows row) }
     {
-        self.rows.iter().find(|row| row.sample == sample).copied()
+        let i = self.place(sample)?;
+        self.get(i)
     }
 
     // The row at a place.

@@ -1,8 +1,9 @@
-use Rattle.std.proofs.Common.{◌≡◌, ℕ, List, length, Ok, Err, Result, sym, refl, ap, ◌∙◌, subst}
+use Rattle.std.proofs.Common.{◌≡◌, ℕ, List, length, Ok, Err, Result, sym, refl, ap, ◌∙◌, subst, w64, to_z, of_z, rules}
 use Rattle.std.proofs.lemmas.Result.{err_from_is_err_and}
+use Rattle.std.proofs.lemmas.Int.{to_z-of_z}
 use Rattle.record.specs.declared.fault.RecordFault.{RecordFault}
 use Rattle.record.specs.declared.tally.Tally.{Tally}
-use Rattle.record.specs.Page.{pasted, report_text, outcome_of, Reported}
+use Rattle.record.specs.Page.{pasted, lines, report_text, outcome_of, Reported}
 use Rattle.record.proofs.Outcomes.{outcome-means}
 use Rattle.record.proofs.Pages.{roomy}
 use Rattle.record.proofs.report.report.Goals as goal
@@ -27,7 +28,10 @@ pub returns : goal.returns
 returns c =
     let bytes : List ℕ = c.args.bytes.now in
     let room : ℕ = length c.args.buffer.now in
+    let t : Tally = c.in_ok-tally.tally in
     record {
-      outcome = written (outcome_of room bytes) c.in_ok-tally.tally c.lay.result c.args.buffer.now c.lay.new.buffer _ (roomy room bytes c.if-buffer-lt-ROOM.false ∙ sym c.in_ok-tally.ensures.is) c.page.ensures c.lay.ensures.end c.lay.ensures.page;
+      outcome = written (outcome_of room bytes) t c.write_lines.result c.args.buffer.now c.write_lines.new.buffer _ (roomy room bytes c.if-buffer-lt-ROOM.false ∙ sym c.in_ok-tally.ensures.is)
+          (ap (λ z. lines t.edition t.rows t.totals.speed z (to_z w64 (of_z w64 t.totals.across))) (to_z-of_z w64 t.totals.along (search rules)) ∙ ap (lines t.edition t.rows t.totals.speed t.totals.along) (to_z-of_z w64 t.totals.across (search rules)))
+          c.write_lines.ensures.end c.write_lines.ensures.page;
       means = outcome-means room bytes (λ i. (c.type_inv.bytes i).fits);
     }

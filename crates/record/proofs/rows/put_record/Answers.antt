@@ -20,6 +20,11 @@ turn-made g r r0 field before after res q e f h =
     let step : (x : g.row.R.Denot) (z : Result (Unit {0}) RecordFault) → Type 0 = λ x z. (book : List Entry) → Grown (g.R.Reader.answer x) book before → Follows (g.R.Reader.answer x) after (made (g.R.Reader.steps x) book field) z in
     subst (step r0) f (subst (λ x. step x res) e h)
 
+-- of the iterator that a loop makes of these fields, which is they
+over : (g : given.Over) (r0 : g.row.R.Denot) (book : List Entry) (fields made' : List Field) (after : List Row) (q : Result (Unit {0}) RecordFault) → made' ≡ fields
+    → Follows (g.R.Reader.answer r0) after (replay (g.R.Reader.steps r0) book made') q → Follows (g.R.Reader.answer r0) after (replay (g.R.Reader.steps r0) book fields) q
+over g r0 book fields made' after q e h = subst (λ l. Follows (g.R.Reader.answer r0) after (replay (g.R.Reader.steps r0) book l) q) e h
+
 pub loop-field-preserved : goal.loop-field-preserved
 loop-field-preserved g c =
     let r0 = c.args.sheet.now.reader in (
@@ -37,10 +42,11 @@ returns-in_err-put_field-clause-made g c book old =
     let f = c.in_err-put_field.field-0.0 in
     let I = c.loop-field.invariant.1 book old in
     let F = turn-made g c.loop-field.sheet.reader r0 c.in-Some.field (rows c.loop-field.sheet) (rows c.put_field.new.sheet) c.put_field.result (Err f) c.loop-field.invariant.0 c.in_err-put_field.was c.put_field.ensures.made I.0 I.1 in
-    subst (Follows (g.R.Reader.answer r0) (rows c.put_field.new.sheet) _) (sym (p.1 ∙ ap Err p.2))
-    (replay-refused _ _ _ I.0 _ c.in-Some.field c.next.new.self f (I.2 ∙ ap (replay (g.R.Reader.steps r0) I.0) c.in-Some.ensures.steps) F)
+    over g r0 book c.args.fields c.into_iter-field-iterator.result (rows c.put_field.new.sheet) c.from_residual.result c.into_iter-field-iterator.ensures.into_iter_gives
+    (subst (Follows (g.R.Reader.answer r0) (rows c.put_field.new.sheet) _) (sym (p.1 ∙ ap Err p.2))
+    (replay-refused _ _ _ I.0 _ c.in-Some.field c.next.new.self f (I.2 ∙ ap (replay (g.R.Reader.steps r0) I.0) c.in-Some.ensures.steps) F))
 
 pub returns-clause-made : goal.returns-clause-made
 returns-clause-made g c book old =
     let I = c.loop-field.invariant.1 book old in
-    replay-over _ _ _ I.0 _ c.loop-field.field-iterator c.in-None.ensures.steps.0 I.2 I.1
+    over g c.args.sheet.now.reader book c.args.fields c.into_iter-field-iterator.result (rows c.loop-field.sheet) (Ok tt) c.into_iter-field-iterator.ensures.into_iter_gives (replay-over _ _ _ I.0 _ c.loop-field.field-iterator c.in-None.ensures.steps.0 I.2 I.1)
