@@ -1,22 +1,21 @@
 // A whole record: its rows on a sheet over its own module.
-ghost use Rattle.std.specs.Prelude.{◌≡◌, ◌∷◌};
+ghost use Rattle.std.specs.Prelude.{◌≡◌};
 ghost use Rattle.record.specs.Record.{tallied, record_tally};
 
 use crate::fault::{Cause, RecordFault};
-use crate::fields::{Field, Fields};
+use crate::fields::Fields;
 use crate::module::Module;
-use crate::rows::{put_field, put_record};
+use crate::rows::put_record;
 use crate::tally::Tally;
 use sheets::sheet::Sheet;
 
 // The rows of these fields, on a new sheet over the module. Apart from `read_record`, since a function pays at its entry
 // for a sheet that it holds: so a record whose first field is refused has none.
-fn tally_over(reader: Module, first: Field, more: Fields<'_>) -> Result<Tally, RecordFault>
-    ensures { result ≡ tallied reader.edition reader.mount (first ∷ more.entry) }
+fn tally_over(reader: Module, fields: Fields<'_>) -> Result<Tally, RecordFault>
+    ensures { result ≡ tallied reader.edition reader.mount fields.entry }
 {
     let mut sheet = Sheet::new(reader);
-    put_field(&mut sheet, first)?;
-    put_record(&mut sheet, more)?;
+    put_record(&mut sheet, fields)?;
     Ok(Tally {
         edition: reader.edition,
         rows: sheet.count() as u16,
@@ -36,5 +35,5 @@ pub fn read_record(bytes: &[u8]) -> Result<Tally, RecordFault>
         return Err(cause.at(first.at));
     }
     let reader = Module::opening(first, &fields);
-    tally_over(reader, first, fields)
+    tally_over(reader, Fields::of(bytes))
 }

@@ -26,7 +26,7 @@ fn put_item<R: Reader>(sheet: &mut Sheet<R>, item: Item) -> Result<(), Cause>
 }
 
 // One field, put to the sheet if it says anything.
-pub(crate) fn put_field<R: Reader>(sheet: &mut Sheet<R>, field: Field) -> Result<(), RecordFault>
+fn put_field<R: Reader>(sheet: &mut Sheet<R>, field: Field) -> Result<(), RecordFault>
     ensures made { (book : List Entry) → Grown (R.Reader.answer sheet.old.reader) book (rows sheet.old) → Follows (R.Reader.answer sheet.old.reader) (rows sheet.new) (made (R.Reader.steps sheet.old.reader) book field) result }
     ensures rest { RowsAlone result sheet.old sheet.new }
 {

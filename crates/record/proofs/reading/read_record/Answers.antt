@@ -1,4 +1,5 @@
 use Rattle.std.proofs.Common.{rules, ◌≡◌, Err, sym, ap, ◌∙◌}
+use Rattle.record.specs.Record.{tallied}
 use Rattle.record.proofs.Tallies.{record-none, record-refused, told-is}
 use Rattle.record.proofs.reading.read_record.Goals as goal
 
@@ -14,4 +15,6 @@ returns-in-Err c =
 pub returns : goal.returns
 returns c =
     let m = c.opening-reader.result in
-    c.tally_over.ensures ∙ told-is c.args.bytes.now c.in-Some.first c.next.new.self m.edition m.mount (sym c.of-fields.ensures ∙ c.in-Some.ensures.steps) c.opening-reader.ensures.edition c.opening-reader.ensures.mount
+    let all = sym c.of-fields.ensures ∙ c.in-Some.ensures.steps in
+    c.tally_over.ensures ∙ ap (tallied m.edition m.mount) (c.of.ensures ∙ all)
+    ∙ told-is c.args.bytes.now c.in-Some.first c.next.new.self m.edition m.mount all c.opening-reader.ensures.edition c.opening-reader.ensures.mount
